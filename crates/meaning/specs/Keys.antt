@@ -1,0 +1,42 @@
+-- Keys, keeping and implication: document 01, "Trees, paths and keys", and 001, Definition 1.
+use Prim.Native.Nat.{ℕ}
+use mathlib.Core.Logic.{_≢_}
+use mathlib.Core.List.{List}
+use Rattle.meaning.specs.Lists.{Each}
+use Rattle.meaning.specs.Paths.{Class, Label, Agrees}
+use Rattle.meaning.specs.Trees.{Table, IsTree, Reached, Equal}
+
+-- "A key is (C, (T, S)): context C, target T, a set S of one or more simple key paths."
+pub record Key : Type 0 where
+  pub context : List ℕ
+  pub target : List ℕ
+  pub paths : List (List ℕ)
+
+-- "value-equal pair x, y with x reached from a and y from b by P"
+pub record EqualPair (κ : ℕ → Class) (t : Table) (a b : ℕ) (P : List ℕ) : Type 0 where
+  pub x : ℕ
+  pub y : ℕ
+  pub fromFirst : Reached t a P x
+  pub fromSecond : Reached t b P y
+  pub equal : Equal κ t x y
+
+-- A witness that the tree breaks the key: "node q reached from the root by C", "two different nodes a, b reached from q by T",
+-- and a value-equal pair for each key path
+pub record Breaks (κ : ℕ → Class) (t : Table) (key : Key) : Type 0 where
+  pub q : ℕ
+  pub a : ℕ
+  pub b : ℕ
+  pub context : Reached t 0 (key .context) q
+  pub first : Reached t q (key .target) a
+  pub second : Reached t q (key .target) b
+  pub different : a ≢ b
+  pub pairs : Each (EqualPair κ t a b) (key .paths)
+
+-- "A tree keeps the key if .. some P in S has no value-equal pair": there is no witness against it
+unfoldable pub Keeps : (ℕ → Class) → Table → Key → Type 0
+Keeps κ t key = Breaks κ t key → ⊥
+
+-- "every finite tree, of any size, labels and values, that keeps the profile keeps the key"
+unfoldable pub Implied : List Label → List Key → Key → Type 0
+Implied labels keys key =
+    (κ : ℕ → Class) → Agrees labels κ → (t : Table) → IsTree κ t → Each (Keeps κ t) keys → Keeps κ t key

@@ -1,0 +1,175 @@
+-- What each public operation answers, for refused inputs too: document 01, "What the work covers" and "Refusal numbers".
+use Prim.Native.Nat.{ℕ, zero, suc, _+_, _-_, _*_, _≤_, _<_}
+use mathlib.Core.Path.{_≡_}
+use mathlib.Core.Logic.{_⊎_}
+use mathlib.Core.Bool.{Bool}
+use mathlib.Core.List.{List, [], _∷_, _++_}
+use mathlib.Core.Option.{some}
+use lib.ListN.{length, take, drop, getElem?}
+use Rattle.meaning.specs.Limits.{proofBytes, counterexampleNodes}
+use Rattle.meaning.specs.Lists.{Each}
+use Rattle.meaning.specs.Paths.{Label, classOf, Included}
+use Rattle.meaning.specs.Trees.{Table, tableOf}
+use Rattle.meaning.specs.Keys.{Key, Breaks, Keeps, Implied}
+use Rattle.meaning.specs.Rules.{Line, FollowsAt, FollowsBelow, EndsWith}
+use Rattle.meaning.specs.Records.{recordLength, recordBody}
+use Rattle.meaning.specs.Refusals
+use Rattle.meaning.specs.Refusals.{Refusal, Profile, Walked, firstRefusal, profileIn, profileRefusal, questionIn, questionRefusal, nodesIn, treeRefusal, proofWalked, pathRefusal, answerRefusal}
+use Rattle.meaning.specs.Pattern.{IsU, writtenNodes, writtenTree}
+use Rattle.meaning.specs.Listing.{block}
+
+pub data Verdict : Type 0 where
+  refused rewritten included notIncluded kept broken accepted implied notImplied listed : Verdict
+
+-- An answer: the verdict, "number, input .. and record number" of a refusal (else 0), bytes used, and the answer buffer at the end (empty
+-- where an operation is lent none)
+pub record Answer : Type 0 where
+  pub verdict : Verdict
+  pub number : ℕ
+  pub input : ℕ
+  pub place : ℕ
+  pub used : ℕ
+  pub buffer : List ℕ
+
+-- "A refusal returns number, input .. and record number ..; all lent bytes stay."
+unfoldable pub refusedBy : Refusal → List ℕ → Answer
+refusedBy r buffer = record { verdict = refused; number = r .number; input = r .input; place = r .place; used = 0; buffer = buffer }
+
+-- "bytes used"; "Bytes after those used are unchanged."
+unfoldable pub filled : Verdict → List ℕ → List ℕ → Answer
+filled v bytes buffer =
+    record { verdict = v; number = 0; input = 0; place = 0; used = length bytes; buffer = bytes ++ drop (length bytes) buffer }
+
+unfoldable pub plain : Verdict → Answer
+plain v = record { verdict = v; number = 0; input = 0; place = 0; used = 0; buffer = [] }
+
+-- The answer is that refusal, or where there is none what Q says of it
+unfoldable pub choose : ℕ → Type 0 → Type 0 → Type 0
+choose zero sound refusing = sound
+choose (suc n) sound refusing = refusing
+
+unfoldable pub Unless : List Refusal → List ℕ → (Answer → Type 0) → Answer → Type 0
+Unless rs buffer Q answer = choose (firstRefusal rs .number) (Q answer) (answer ≡ refusedBy (firstRefusal rs) buffer)
+
+unfoldable pub labelsIn : List ℕ → List Label
+labelsIn profile = profileIn profile .labels
+
+unfoldable pub keysIn : List ℕ → List Key
+keysIn profile = profileIn profile .keys
+
+-- "read and rewrite a profile"; "profiles read and written back are the same bytes"
+unfoldable pub Rewrites : (profile buffer : List ℕ) → Answer → Type 0
+Rewrites profile buffer =
+    Unless (answerRefusal buffer ∷ profileRefusal profile ∷ []) buffer (λ answer. answer ≡ filled rewritten profile buffer)
+
+-- "give the body of record n of a checked profile"; "if that refuses, or there is no record n, it answers the empty part alone"
+unfoldable pub recordsFrom : ℕ → List ℕ → List ℕ
+recordsFrom zero l = l
+recordsFrom (suc n) l = recordsFrom n (drop (recordLength l) l)
+
+unfoldable pub orNothing : ℕ → List ℕ → List ℕ
+orNothing zero body = body
+orNothing (suc n) body = []
+
+unfoldable pub bodyAt : List ℕ → ℕ → List ℕ
+bodyAt profile n = orNothing (profileRefusal profile .number) (recordBody (recordsFrom n profile))
+
+-- "test inclusion of two paths"
+unfoldable pub Includes : (profile P Q : List ℕ) → Answer → Type 0
+Includes profile P Q =
+    Unless (profileRefusal profile ∷ pathRefusal (labelsIn profile) 2 P ∷ pathRefusal (labelsIn profile) 3 Q ∷ []) []
+    (λ answer.
+    (Included (labelsIn profile) P Q × (answer ≡ plain included)) ⊎ ((Included (labelsIn profile) P Q → ⊥) × (answer ≡ plain notIncluded)))
+
+-- the tree that a file says
+unfoldable pub treeIn : (profile tree : List ℕ) → Table
+treeIn profile tree = tableOf (nodesIn (labelsIn profile) tree)
+
+unfoldable pub KeepsIn : (profile tree : List ℕ) → Key → Type 0
+KeepsIn profile tree key = Keeps (classOf (labelsIn profile)) (treeIn profile tree) key
+
+unfoldable pub BreaksIn : (profile tree : List ℕ) → Key → Type 0
+BreaksIn profile tree key = Breaks (classOf (labelsIn profile)) (treeIn profile tree) key
+
+-- the refusals of profile, question and tree in their order
+unfoldable pub treeRefusals : (profile question tree : List ℕ) → List Refusal
+treeRefusals profile question tree =
+    profileRefusal profile ∷ questionRefusal (labelsIn profile) question ∷ treeRefusal (labelsIn profile) tree ∷ []
+
+-- "test whether a tree keeps a key"
+unfoldable pub TestsTree : (profile question tree : List ℕ) → Answer → Type 0
+TestsTree profile question tree =
+    Unless (treeRefusals profile question tree) []
+    (λ answer.
+    (KeepsIn profile tree (questionIn question) × (answer ≡ plain kept))
+    ⊎ (BreaksIn profile tree (questionIn question) × (answer ≡ plain broken)))
+
+-- The lines of a proof judged from the front: the first that does not follow is refused by 9, else the first that is not a line by its own
+-- number, else the proof by 10 where its last key is not the question, else it is accepted
+pub data ProofJudged (labels : List Label) (keys : List Key) (question : Key) (walked : Walked (List Line)) (answer : Answer) : Type 0 where
+  unfollowed : (n : ℕ) → n < length (walked .state) → FollowsBelow labels keys (walked .state) n → (FollowsAt labels keys (walked .state) n → ⊥)
+      → answer ≡ refusedBy (record { number = 9; input = 3; place = n }) [] → ProofJudged labels keys question walked answer
+  faulty : FollowsBelow labels keys (walked .state) (length (walked .state)) → 0 < walked .number
+      → answer ≡ refusedBy (record { number = walked .number; input = 3; place = walked .at }) [] → ProofJudged labels keys question walked answer
+  otherEnd : FollowsBelow labels keys (walked .state) (length (walked .state)) → walked .number ≡ 0 → (EndsWith (walked .state) question → ⊥)
+      → answer ≡ refusedBy (record { number = 10; input = 3; place = length (walked .state) - 1 }) []
+      → ProofJudged labels keys question walked answer
+  proved : FollowsBelow labels keys (walked .state) (length (walked .state)) → walked .number ≡ 0 → EndsWith (walked .state) question
+      → answer ≡ plain accepted → ProofJudged labels keys question walked answer
+
+-- "check a proof"
+unfoldable pub ChecksProof : (profile question proof : List ℕ) → Answer → Type 0
+ChecksProof profile question proof =
+    Unless
+    (profileRefusal profile ∷ questionRefusal (labelsIn profile) question ∷ Refusals.oversize 3 proofBytes proof ∷ [])
+    []
+    (ProofJudged (labelsIn profile) (keysIn profile) (questionIn question) (proofWalked (labelsIn profile) proof))
+
+-- "check a counterexample": 12 "(input 1, as record the lowest such key number)", then 13
+pub data CounterexampleJudged (profile question tree : List ℕ) (answer : Answer) : Type 0 where
+  breaksKey : (n : ℕ) (key : Key) → getElem? (keysIn profile) n ≡ some key → Each (KeepsIn profile tree) (take n (keysIn profile))
+      → BreaksIn profile tree key → answer ≡ refusedBy (record { number = 12; input = 1; place = n }) []
+      → CounterexampleJudged profile question tree answer
+  keepsQuestion : Each (KeepsIn profile tree) (keysIn profile) → KeepsIn profile tree (questionIn question)
+      → answer ≡ refusedBy (record { number = 13; input = 3; place = 0 }) [] → CounterexampleJudged profile question tree answer
+  refutes : Each (KeepsIn profile tree) (keysIn profile) → BreaksIn profile tree (questionIn question) → answer ≡ plain accepted
+      → CounterexampleJudged profile question tree answer
+
+unfoldable pub ChecksCounterexample : (profile question tree : List ℕ) → Answer → Type 0
+ChecksCounterexample profile question tree =
+    Unless (treeRefusals profile question tree) [] (CounterexampleJudged profile question tree)
+
+-- "list a block of a tree"; input 2 is not there
+unfoldable pub Lists : (profile tree : List ℕ) (k : ℕ) (buffer : List ℕ) → Answer → Type 0
+Lists profile tree k buffer =
+    Unless (answerRefusal buffer ∷ profileRefusal profile ∷ treeRefusal (labelsIn profile) tree ∷ []) buffer
+    (λ answer. answer ≡ filled listed (block (labelsIn profile) (nodesIn (labelsIn profile) tree) k) buffer)
+
+-- "decide a question". Implied: the first `used` bytes of the buffer are a proof that the check accepts. Not implied: they are the tree
+-- that is fixed, which the check accepts. 11: "the counterexample would have over 256 nodes (input 2)", last
+pub record ProofWritten (profile question buffer : List ℕ) (answer : Answer) : Type 0 where
+  pub holds : Implied (labelsIn profile) (keysIn profile) (questionIn question)
+  pub bytes : List ℕ
+  pub checked : ChecksProof profile question bytes (plain accepted)
+  pub answered : answer ≡ filled implied bytes buffer
+  pub fits : length bytes ≤ length buffer
+
+pub record TreeWritten (profile question buffer : List ℕ) (answer : Answer) : Type 0 where
+  pub fails : Implied (labelsIn profile) (keysIn profile) (questionIn question) → ⊥
+  pub u : ℕ
+  pub isU : IsU (keysIn profile) (questionIn question) u
+  pub within : length (writtenNodes (classOf (labelsIn profile)) (questionIn question) u) ≤ counterexampleNodes
+  pub checked : ChecksCounterexample profile question (writtenTree (classOf (labelsIn profile)) (questionIn question) u) (plain accepted)
+  pub answered : answer ≡ filled notImplied (writtenTree (classOf (labelsIn profile)) (questionIn question) u) buffer
+
+pub record TreeTooLarge (profile question buffer : List ℕ) (answer : Answer) : Type 0 where
+  pub fails : Implied (labelsIn profile) (keysIn profile) (questionIn question) → ⊥
+  pub u : ℕ
+  pub isU : IsU (keysIn profile) (questionIn question) u
+  pub beyond : counterexampleNodes < length (writtenNodes (classOf (labelsIn profile)) (questionIn question) u)
+  pub answered : answer ≡ refusedBy (record { number = 11; input = 2; place = 0 }) buffer
+
+unfoldable pub Decides : (profile question buffer : List ℕ) → Answer → Type 0
+Decides profile question buffer =
+    Unless (answerRefusal buffer ∷ profileRefusal profile ∷ questionRefusal (labelsIn profile) question ∷ []) buffer
+    (λ answer. ProofWritten profile question buffer answer ⊎ (TreeWritten profile question buffer answer ⊎ TreeTooLarge profile question buffer answer))
