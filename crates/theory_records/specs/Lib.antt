@@ -1,0 +1,5 @@
+-- What the readers and the operations need to know of records: laws of the walk, round trips, and what acceptance says.
+pub mod Walks
+pub mod Tests
+pub mod Bytes
+pub mod Heads
