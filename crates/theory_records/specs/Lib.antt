@@ -3,3 +3,4 @@ pub mod Walks
 pub mod Tests
 pub mod Bytes
 pub mod Heads
+pub mod KeyBodies
