@@ -4,3 +4,4 @@ pub mod Tests
 pub mod Bytes
 pub mod Heads
 pub mod KeyBodies
+pub mod Encodings
