@@ -5,3 +5,4 @@ pub mod Bytes
 pub mod Heads
 pub mod KeyBodies
 pub mod Encodings
+pub mod Judged
