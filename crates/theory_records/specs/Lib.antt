@@ -6,3 +6,4 @@ pub mod Heads
 pub mod KeyBodies
 pub mod Encodings
 pub mod Judged
+pub mod Profiles
