@@ -7,3 +7,4 @@ pub mod KeyBodies
 pub mod Encodings
 pub mod Judged
 pub mod Profiles
+pub mod TreeFiles
