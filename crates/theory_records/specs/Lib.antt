@@ -8,3 +8,5 @@ pub mod Encodings
 pub mod Judged
 pub mod Profiles
 pub mod TreeFiles
+pub mod Questions
+pub mod Bodies
