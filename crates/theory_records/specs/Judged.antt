@@ -28,6 +28,19 @@ room-says kind limit count l h k e =
     let same : eqb (recordKind l) kind ≡ true = eq-eqb (recordKind l) kind k in
     leb-false limit count (rw (head, same) at e)
 
+and-false : (a : Bool) → a && false ≡ false
+and-false true = refl
+and-false false = refl
+
+pub room-left : (kind limit count : ℕ) (l : List ℕ) → count < limit → tooMany kind limit count l ≡ false
+unfolding tooMany
+room-left kind limit count l h = rw (lt-leb limit count h) (and-false (leb 4 (length l) && eqb (recordKind l) kind))
+
+no-keys : {A : Type 0} (l : List A) → length l ≡ 0 → isEmpty l ≡ true
+unfolding isEmpty
+no-keys [] e = refl
+no-keys (x ∷ l) e = absurd (omega arith)
+
 pub empty-says : {A : Type 0} (l : List A) → isEmpty l ≡ true → l ≡ []
 unfolding isEmpty
 empty-says [] e = refl
@@ -143,3 +156,30 @@ line-accepted labels lines l e =
       room = room-says 4 256 (length lines) l (w .head) four (seven .0);
       good = good-of-tests _ _ _ (two .1);
     }
+
+-- The other way: what passes each test is accepted
+pub profile-label-passes : (p : Profile) (l : List ℕ) → length (p .keys) ≡ 0 → whole l ≡ true → recordKind l ≡ 1
+    → goodLabel (p .labels) (readLabel (recordBody l)) ≡ true → firstOf (profileTests p l) ≡ 0
+unfolding profileTests firstOf inProfileOrder
+profile-label-passes p l none w k good = rw (room-left 2 64 (length (p .keys)) l (omega arith), w, k, good, no-keys (p .keys) none)
+
+pub profile-key-passes : (p : Profile) (l : List ℕ) → length (p .keys) < 64 → whole l ≡ true → recordKind l ≡ 2
+    → firstOf (keyTests (p .labels) inProfile (keyIn (recordBody l))) ≡ 0 → firstOf (profileTests p l) ≡ 0
+unfolding profileTests firstOf inProfileOrder
+profile-key-passes p l room w k good = rw (room-left 2 64 (length (p .keys)) l room, w, k) good
+
+pub question-passes : (labels : List Label) (l : List ℕ) → whole l ≡ true → recordKind l ≡ 2
+    → firstOf (keyTests labels inProfile (keyIn (recordBody l))) ≡ 0 → firstOf (questionTests labels [] l) ≡ 0
+unfolding questionTests firstOf isEmpty
+question-passes labels l w k good = rw (w, k) good
+
+pub node-passes : (labels : List Label) (nodes : List Node) (l : List ℕ) → length nodes < 4096 → whole l ≡ true → recordKind l ≡ 3
+    → cond (isEmpty nodes) (goodRoot (readNode (recordBody l))) (goodBelow labels nodes (readNode (recordBody l))) ≡ true
+    → firstOf (treeTests labels nodes l) ≡ 0
+unfolding treeTests firstOf
+node-passes labels nodes l room w k good = rw (room-left 3 4096 (length nodes) l room, w, k, good)
+
+pub line-passes : (labels : List Label) (lines : List Line) (l : List ℕ) → length lines < 256 → whole l ≡ true → recordKind l ≡ 4
+    → firstOf (keyTests labels inProof (readLine (recordBody l) .key)) ≡ 0 → firstOf (lineTests labels lines l) ≡ 0
+unfolding lineTests firstOf
+line-passes labels lines l room w k good = rw (room-left 4 256 (length lines) l room, w, k) good

@@ -10,3 +10,4 @@ pub mod Profiles
 pub mod TreeFiles
 pub mod Questions
 pub mod Bodies
+pub mod Written
