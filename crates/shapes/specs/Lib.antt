@@ -1,0 +1,4 @@
+-- Laws for the leaf readers: each turns the tests of the code into an equation with a definition of `meaning`.
+pub mod Scans
+pub mod Fields
+pub mod Names
