@@ -2,3 +2,5 @@
 pub mod Scans
 pub mod Fields
 pub mod Names
+pub mod Parts
+pub mod Bodies
