@@ -1,0 +1,3 @@
+-- What the reader of a tree says, and its laws.
+pub mod Labels
+pub mod Nodes
