@@ -5,6 +5,7 @@ use mathlib.Core.Bool.{Bool, true, false, _&&_, not}
 use mathlib.Core.List.{List, [], _∷_, _++_}
 use native.Mathlib.Omega.{arith}
 use borrow.Author.Tests.{leb-true, not-false}
+use borrow.Rule.Slice.PartAt.{part-to-end}
 use lib.ListN.{length, getD, take, drop, take-append-drop, length-take, length-drop}
 use lib.Seq.{length-take-le, take-append-seam, drop-append-seam}
 use Rattle.meaning.specs.Lists.{Each, end, also}
@@ -91,3 +92,7 @@ pub record Passed (l : List ℕ) : Type 0 where
 pub passed : (l : List ℕ) {b : Bool} → b ≡ whole l → not b ≡ false → Passed l
 unfolding recordLength
 passed l e t = let w = whole-says l (sym e ∙ not-false _ t) in record { head = w .head; long = w .long; within = w .within }
+
+-- the rest after a record, as the code has it, is shorter
+pub shorter : (l : List ℕ) (k : ℕ) → 1 ≤ k → k ≤ length l → length (take (length l - k) (drop k l)) < length l
+shorter l k h w = rw (part-to-end l k) (omega (arith, length-drop k l))
