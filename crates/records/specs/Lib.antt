@@ -2,3 +2,4 @@
 pub mod Labels
 pub mod Keys
 pub mod Agree
+pub mod KeyWalks
