@@ -3,3 +3,4 @@ pub mod Labels
 pub mod Keys
 pub mod Agree
 pub mod KeyWalks
+pub mod QuestionWalks
