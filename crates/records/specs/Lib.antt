@@ -3,4 +3,5 @@ pub mod Labels
 pub mod Keys
 pub mod Agree
 pub mod KeyWalks
+pub mod LabelWalks
 pub mod QuestionWalks
