@@ -4,4 +4,5 @@ pub mod Keys
 pub mod Agree
 pub mod KeyWalks
 pub mod LabelWalks
+pub mod ProfileWalks
 pub mod QuestionWalks
