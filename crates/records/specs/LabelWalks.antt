@@ -8,7 +8,7 @@ use native.Mathlib.Numerals.{add-one}
 use borrow.Author.Tests.{eqb-true, eqb-false, eq-eqb, ne-eqb, ltb-true, lt-ltb, le-ltb, leb-true, not-true, not-false}
 use borrow.Rule.Slice.PartAt.{part-to-end}
 use lib.Dec.{eqb, ltb, leb}
-use lib.ListN.{length, getD, take, drop, set, length-drop, length-set}
+use lib.ListN.{length, getD, take, drop, set, length-drop, length-set, replicate, length-replicate}
 use lib.Seq.{getD-set-same, getD-set-other, getD-drop, getD-take}
 use Rattle.meaning.specs.Lists.{every, any, same, isEmpty}
 use Rattle.meaning.specs.Paths.{Label, Class, element, attribute, isAttribute, declared, declaredClass}
@@ -59,8 +59,8 @@ pub highest-more : (labels : List Label) (last : ℕ) (x : Label) → Highest la
 highest-more labels last x h lt =
     record {
       above = λ n two.
-        every-more (λ (k : Label). ltb (k .number) n) labels x
-        ∙ (ap (λ (b : Bool). b && ltb (x .number) n) (h .above n two) ∙ go n (ltb (x .number) n) refl);
+          every-more (λ (k : Label). ltb (k .number) n) labels x
+          ∙ (ap (λ (b : Bool). b && ltb (x .number) n) (h .above n two) ∙ go n (ltb (x .number) n) refl);
     }
   where
     go : (n : ℕ) (b : Bool) → ltb (x .number) n ≡ b → (ltb last n && b) ≡ b
@@ -180,15 +180,20 @@ pub record LabelLoop (bytes classes rest : List ℕ) (labels last : ℕ) : Type 
   pub here : rest ≡ recordsFrom labels bytes
   pub walks : walk profileTests profileNext 0 labels (labelled (labelsAt labels bytes)) rest ≡ profileWalked bytes
 
-pub labels-start : (bytes classes : List ℕ) → length classes ≡ 256 → ((n : ℕ) → getD classes n 0 ≡ 0) → LabelLoop bytes classes bytes 0 0
+zeros : (k n : ℕ) → getD {A = ℕ} (replicate k 0) n 0 ≡ 0
+zeros zero n = refl
+zeros (suc k) zero = refl
+zeros (suc k) (suc n) = zeros k n
+
+pub labels-start : (bytes : List ℕ) → LabelLoop bytes (replicate 256 0) bytes 0 0
 unfolding labelsAt recordsFrom profileWalked entryOf declared any every
-labels-start bytes classes w zeros =
+labels-start bytes =
     record {
       size = omega arith;
       records = none;
       highest = record { above = λ n two. sym (lt-ltb 0 n (omega arith)) };
-      wide = w;
-      table = record { entry = λ n h. zeros n };
+      wide = length-replicate {A = ℕ} 256 0;
+      table = record { entry = λ n h. zeros 256 n };
       here = refl;
       walks = refl;
     }
