@@ -4,9 +4,11 @@ ghost use mathlib.Core.Path.{_≡_};
 ghost use mathlib.Core.Bool.{false};
 ghost use Prim.Native.Nat.{_≤_};
 ghost use lib.ListN.{length};
-ghost use Rattle.meaning.specs.Paths.{member as isMember};
+ghost use Rattle.meaning.specs.Lists.{same as isSame};
+ghost use Rattle.meaning.specs.Paths.{member as isMember, simple as isSimple, normal as isNormal};
 ghost use Rattle.paths.specs.Search.{Told};
 ghost use Rattle.paths.specs.Square.{Filled, Above, Beside, isMark};
+ghost use Rattle.paths.specs.Forms.{isBeginning, isDoubled};
 
 // "Symbol 0 in a path is the any-path".
 const ANY_PATH: u8 = 0;
@@ -119,4 +121,69 @@ pub fn included(p: &[u8], q: &[u8]) -> bool
         mark_row(&mut marks, p, q, left);
     }
     marks[0]
+}
+
+// Two runs of bytes are the same.
+pub fn same(a: &[u8], b: &[u8]) -> bool
+    ensures { λ r. ⌜ r ≡ isSame (now (a .entry)) (now (b .entry)) ⌝ }
+{
+    if a.len() != b.len() {
+        return false;
+    }
+    let mut i = 0;
+    while i < a.len() {
+        if a[i] != b[i] {
+            return false;
+        }
+        i += 1;
+    }
+    true
+}
+
+// p begins with s.
+pub fn begins(s: &[u8], p: &[u8]) -> bool
+    ensures { λ r. ⌜ r ≡ isBeginning (now (s .entry)) (now (p .entry)) ⌝ }
+{
+    let n = s.len();
+    if p.len() < n {
+        return false;
+    }
+    same(s, &p[..n])
+}
+
+// 001: a path is simple if the any-path does not occur in it.
+pub fn simple(p: &[u8]) -> bool
+    ensures { λ r. ⌜ r ≡ isSimple (now (p .entry)) ⌝ }
+{
+    let mut i = 0;
+    while i < p.len() {
+        if p[i] == ANY_PATH {
+            return false;
+        }
+        i += 1;
+    }
+    true
+}
+
+fn doubled(s: u8, t: u8) -> bool
+    ensures { λ r. ⌜ r ≡ isDoubled s t ⌝ }
+{
+    if s != ANY_PATH {
+        return false;
+    }
+    t == ANY_PATH
+}
+
+// "A path is in normal form if no two 0 stand together."
+pub fn normal(p: &[u8]) -> bool
+    ensures { λ r. ⌜ r ≡ isNormal (now (p .entry)) ⌝ }
+{
+    let mut i = 0;
+    while 1 < p.len() - i {
+        if doubled(p[i], p[i + 1]) {
+            return false;
+        }
+        i += 1;
+    }
+    true
 }
