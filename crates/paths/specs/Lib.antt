@@ -2,3 +2,4 @@
 pub mod Search
 pub mod Square
 pub mod Forms
+pub mod Classes
