@@ -3,3 +3,5 @@ pub mod Search
 pub mod Square
 pub mod Forms
 pub mod Classes
+pub mod Tables
+pub mod Joins
