@@ -58,7 +58,17 @@ pub record Overlap (x y : List ℕ) (r : ℕ) : Type 0 where
   pub within : r ≤ length y
   pub joined : join x y ≡ x ++ drop r y
 
-module _ (x y : List ℕ) (g : T (normal x)) (h : T (normal y)) where
+pub record BothNormal (x y : List ℕ) : Type 0 where
+  pub first : T (normal x)
+  pub second : T (normal y)
+
+module _ (x y : List ℕ) (b : BothNormal x y) where
+  g : T (normal x)
+  g = b .first
+
+  h : T (normal y)
+  h = b .second
+
   pub overlap-left : length x ≡ 0 → Overlap x y 0
   overlap-left e = record { within = omega arith; joined = go x e }
     where
@@ -135,3 +145,32 @@ module _ (x y : List ℕ) (g : T (normal x)) (h : T (normal y)) where
       (λ m. shape-at (λ e. n (eqb-of (length x) 0 e)) (λ e. m (eqb-of (length y) 0 e)) (isDoubled (getD x (length x - 1) 0) (getD y 0 0)) refl)
       (T-cases (eqb (length y) 0)))
       (T-cases (eqb (length x) 0))
+
+-- Laws of `append_is`: the parts of t are x and y
+same-append : (x y t : List ℕ) → length x ≤ length t → same (x ++ y) t ≡ (same x (take (length x) t) && same y (drop (length x) t))
+unfolding same
+same-append [] y t h = refl
+same-append (s ∷ x) y [] h = absurd (omega arith)
+same-append (s ∷ x) y (k ∷ t) h =
+    ap (λ (b : Bool). eqb s k && b) (same-append x y t (omega arith)) ∙ regroup (eqb s k) (same x (take (length x) t)) (same y (drop (length x) t))
+  where
+    regroup : (a b c : Bool) → (a && (b && c)) ≡ (a && b && c)
+    regroup true b c = refl
+    regroup false b c = refl
+
+pub append-short : (x y t : List ℕ) → length t < length x → false ≡ same (x ++ y) t
+append-short x y t l = same-other-length (x ++ y) t (λ e. absurd (longer e))
+  where
+    longer : length (x ++ y) ≡ length t → ⊥
+    longer e = let f = sym (length-append x y) ∙ e in omega arith
+
+pub append-other : (x y t : List ℕ) (r : Bool) → length x ≤ length t → r ≡ same x (take (length x) t) → r ≡ false → false ≡ same (x ++ y) t
+append-other x y t r l d e = sym (same-append x y t l ∙ ap (λ (b : Bool). b && same y (drop (length x) t)) (sym d ∙ e))
+
+pub append-rest : (x y t : List ℕ) (r a : Bool) → length x ≤ length t → r ≡ same x (take (length x) t) → r ≡ true
+    → a ≡ same y (take (length t - length x) (drop (length x) t)) → a ≡ same (x ++ y) t
+append-rest x y t r a l d e h =
+    h ∙ ap (same y) (part-to-end t (length x)) ∙ sym (same-append x y t l ∙ ap (λ (b : Bool). b && same y (drop (length x) t)) (sym d ∙ e))
+
+pub joined-same : (x y t : List ℕ) (n : ℕ) (r : Bool) → Overlap x y n → r ≡ same (x ++ take (length y - n) (drop n y)) t → r ≡ same (join x y) t
+joined-same x y t n r o e = e ∙ ap (λ (l : List ℕ). same l t) (ap (λ (l : List ℕ). x ++ l) (part-to-end y n) ∙ sym (o .joined))

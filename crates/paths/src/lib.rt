@@ -2,15 +2,17 @@
 // three paths. Each contract cites the definition in `meaning`; nothing is built, so nothing is copied.
 ghost use mathlib.Core.Path.{_≡_};
 ghost use mathlib.Core.Bool.{false};
+ghost use mathlib.Core.List.{_++_};
 ghost use Prim.Native.Nat.{_≤_};
 ghost use lib.ListN.{length};
 ghost use Rattle.meaning.specs.Lists.{same as isSame};
-ghost use Rattle.meaning.specs.Paths.{member as isMember, simple as isSimple, normal as isNormal, isElement, valid as isValid};
+ghost use Rattle.meaning.specs.Paths.{member as isMember, simple as isSimple, normal as isNormal, isElement, valid as isValid, join};
 ghost use Rattle.theory_paths.specs.Valid.{mayStep};
 ghost use Rattle.paths.specs.Search.{Told};
 ghost use Rattle.paths.specs.Square.{Filled, Above, Beside, isMark};
 ghost use Rattle.paths.specs.Forms.{isBeginning, isDoubled};
 ghost use Rattle.paths.specs.Classes.{classBy};
+ghost use Rattle.paths.specs.Joins.{BothNormal, Overlap};
 
 // "Symbol 0 in a path is the any-path".
 const ANY_PATH: u8 = 0;
@@ -233,4 +235,44 @@ pub fn valid(p: &[u8], classes: &[u8; 256]) -> bool
         i += 1;
     }
     true
+}
+
+// How many symbols of y their join leaves out: the any-path that ends x and begins y stands there once.
+fn overlap(x: &[u8], y: &[u8]) -> usize
+    requires { ⌜ BothNormal (now x) (now y) ⌝ }
+    ensures { λ r. ⌜ Overlap (now (x .entry)) (now (y .entry)) r ⌝ }
+{
+    if x.len() == 0 {
+        return 0;
+    }
+    if y.len() == 0 {
+        return 0;
+    }
+    if doubled(x[x.len() - 1], y[0]) {
+        return 1;
+    }
+    0
+}
+
+// x with y behind it is t.
+fn append_is(x: &[u8], y: &[u8], t: &[u8]) -> bool
+    ensures { λ r. ⌜ r ≡ isSame (now (x .entry) ++ now (y .entry)) (now (t .entry)) ⌝ }
+{
+    let n = x.len();
+    if t.len() < n {
+        return false;
+    }
+    if !same(x, &t[..n]) {
+        return false;
+    }
+    same(y, &t[n..])
+}
+
+// The join of x and y, both in normal form, is t.
+pub fn join_is(x: &[u8], y: &[u8], t: &[u8]) -> bool
+    requires { ⌜ BothNormal (now x) (now y) ⌝ }
+    ensures { λ r. ⌜ r ≡ isSame (join (now (x .entry)) (now (y .entry))) (now (t .entry)) ⌝ }
+{
+    let n = overlap(x, y);
+    append_is(x, &y[n..], t)
 }
