@@ -34,7 +34,7 @@ last-of x n =
     let e : suc (length x - 1) ≡ length x = omega arith in
     sym (take-length x) ∙ ap (λ (k : ℕ). take k x) (sym e) ∙ take-suc x (length x - 1) 0 (omega arith)
 
-first-of : (y : List ℕ) → (length y ≡ 0 → ⊥) → y ≡ getD y 0 0 ∷ drop 1 y
+pub first-of : (y : List ℕ) → (length y ≡ 0 → ⊥) → y ≡ getD y 0 0 ∷ drop 1 y
 first-of [] n = absurd (n refl)
 first-of (s ∷ y) n = refl
 
@@ -47,11 +47,12 @@ unfolding isDoubled
 doubled-second s t e = eqb→eq t 0 (and-right (eqb s 0) (eqb t 0) (of-true (eqb s 0 && eqb t 0) e))
 
 -- the doubled 0 is removed
-norm-shared : (x y : List ℕ) → T (normal (x ++ (0 ∷ []))) → T (normal (0 ∷ y)) → norm ((x ++ (0 ∷ [])) ++ (0 ∷ y)) ≡ x ++ (0 ∷ y)
+pub norm-doubled : (x y : List ℕ) → norm ((x ++ (0 ∷ [])) ++ (0 ∷ y)) ≡ norm (x ++ (0 ∷ y))
 unfolding norm
-norm-shared x y g h =
-    ap norm (append-assoc x (0 ∷ []) (0 ∷ y)) ∙ sym (norm-append-right x (0 ∷ 0 ∷ y)) ∙ norm-append-right x (0 ∷ y)
-    ∙ norm-of-normal (x ++ (0 ∷ y)) (normal-glue x 0 y g h)
+norm-doubled x y = ap norm (append-assoc x (0 ∷ []) (0 ∷ y)) ∙ sym (norm-append-right x (0 ∷ 0 ∷ y)) ∙ norm-append-right x (0 ∷ y)
+
+norm-shared : (x y : List ℕ) → T (normal (x ++ (0 ∷ []))) → T (normal (0 ∷ y)) → norm ((x ++ (0 ∷ [])) ++ (0 ∷ y)) ≡ x ++ (0 ∷ y)
+norm-shared x y g h = norm-doubled x y ∙ norm-of-normal (x ++ (0 ∷ y)) (normal-glue x 0 y g h)
 
 -- what `overlap` answers: how much of y the join leaves out
 pub record Overlap (x y : List ℕ) (r : ℕ) : Type 0 where

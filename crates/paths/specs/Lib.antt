@@ -5,3 +5,4 @@ pub mod Forms
 pub mod Classes
 pub mod Tables
 pub mod Joins
+pub mod Cuts

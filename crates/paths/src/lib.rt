@@ -13,6 +13,7 @@ ghost use Rattle.paths.specs.Square.{Filled, Above, Beside, isMark};
 ghost use Rattle.paths.specs.Forms.{isBeginning, isDoubled};
 ghost use Rattle.paths.specs.Classes.{classBy};
 ghost use Rattle.paths.specs.Joins.{BothNormal, Overlap};
+ghost use Rattle.paths.specs.Cuts.{CutReady, CutSo};
 
 // "Symbol 0 in a path is the any-path".
 const ANY_PATH: u8 = 0;
@@ -275,4 +276,30 @@ pub fn join_is(x: &[u8], y: &[u8], t: &[u8]) -> bool
 {
     let n = overlap(x, y);
     append_is(x, &y[n..], t)
+}
+
+// Rule 7: "X and Y exist with X.Y = T; gives (C.X, (Y, S)). A single `_*` may split into two." Y has to end T. X is what stands before
+// it, and where Y begins with the any-path X may end with it too.
+pub fn cut_is(target: &[u8], rest: &[u8], context: &[u8], whole: &[u8]) -> bool
+    requires { ⌜ CutReady (now target) (now rest) (now context) ⌝ }
+    ensures { λ r. ⌜ CutSo (now (target .entry)) (now (rest .entry)) (now (context .entry)) (now (whole .entry)) r ⌝ }
+{
+    if target.len() < rest.len() {
+        return false;
+    }
+    let cut = target.len() - rest.len();
+    if !same(rest, &target[cut..]) {
+        return false;
+    }
+    if join_is(context, &target[..cut], whole) {
+        return true;
+    }
+    if rest.len() == 0 {
+        return false;
+    }
+    if rest[0] != ANY_PATH {
+        return false;
+    }
+    let next = cut + 1;
+    join_is(context, &target[..next], whole)
 }
