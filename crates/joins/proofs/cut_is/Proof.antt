@@ -1,11 +1,11 @@
--- `paths::cut_is` meets its contract: the laws of specs/Cuts, one for each return. Assumes nothing.
+-- `joins::cut_is` meets its contract: the laws of specs/Cuts, one for each return. Assumes nothing.
 use native.Mathlib.Omega.{arith}
-use Rattle.paths.specs.Cuts.{cut-parts, cut-short, cut-other, cut-here, cut-empty, cut-label, cut-next}
+use Rattle.joins.specs.Cuts.{cut-parts, cut-short, cut-other, cut-here, cut-empty, cut-label, cut-next}
 use lib.ListN.{length-take}
 use borrow.Author.Tests.{not-true, not-false}
 use borrow.Author.Needs.{needs}
-use Rattle.paths.proofs.cut_is.Statement.{statement}
-use Rattle.paths.proofs.cut_is.Tie as tie
+use Rattle.joins.proofs.cut_is.Statement.{statement}
+use Rattle.joins.proofs.cut_is.Tie as tie
 
 -- src/lib.rt:288:9
 returns : tie.Need-returns

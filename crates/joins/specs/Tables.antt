@@ -14,7 +14,7 @@ use Rattle.meaning.specs.Lists.{any}
 use Rattle.meaning.specs.Paths.{Class, element, attribute, text, isAttribute, Label, declared, declaredClass, classOf, valid}
 use Rattle.theory_paths.specs.Bools.{T-cases, true-of, false-of, eqb-of}
 use Rattle.theory_paths.specs.Good.{undeclared-class}
-use Rattle.paths.specs.Classes.{classBy}
+use Rattle.joins.specs.Classes.{classBy}
 
 -- the entry of a label: 0 not declared, 1 element, 2 attribute
 unfoldable pub entry : List Label → ℕ → ℕ

@@ -1,8 +1,8 @@
--- `paths::join_is` meets its contract. Assumes nothing.
-use Rattle.paths.specs.Joins.{joined-same}
+-- `joins::join_is` meets its contract. Assumes nothing.
+use Rattle.joins.specs.Joins.{joined-same}
 use borrow.Author.Needs.{needs}
-use Rattle.paths.proofs.join_is.Statement.{statement}
-use Rattle.paths.proofs.join_is.Tie as tie
+use Rattle.joins.proofs.join_is.Statement.{statement}
+use Rattle.joins.proofs.join_is.Tie as tie
 
 -- src/lib.rt:276:9
 overlap-requires : tie.Need-overlap-requires

@@ -1,8 +1,8 @@
--- `paths::overlap` meets its contract. Assumes nothing.
-use Rattle.paths.specs.Joins.{overlap-left, overlap-right, overlap-one, overlap-none}
+-- `joins::overlap` meets its contract. Assumes nothing.
+use Rattle.joins.specs.Joins.{overlap-left, overlap-right, overlap-one, overlap-none}
 use borrow.Author.Needs.{needs}
-use Rattle.paths.proofs.overlap.Statement.{statement}
-use Rattle.paths.proofs.overlap.Tie as tie
+use Rattle.joins.proofs.overlap.Statement.{statement}
+use Rattle.joins.proofs.overlap.Tie as tie
 
 -- src/lib.rt:246:9
 returns : tie.Need-returns

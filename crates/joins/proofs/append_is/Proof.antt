@@ -1,11 +1,11 @@
--- `paths::append_is` meets its contract. Assumes nothing.
+-- `joins::append_is` meets its contract. Assumes nothing.
 use native.Mathlib.Omega.{arith}
-use Rattle.paths.specs.Joins.{append-short, append-other, append-rest}
+use Rattle.joins.specs.Joins.{append-short, append-other, append-rest}
 use lib.ListN.{length-take}
 use borrow.Author.Tests.{not-true, not-false}
 use borrow.Author.Needs.{needs}
-use Rattle.paths.proofs.append_is.Statement.{statement}
-use Rattle.paths.proofs.append_is.Tie as tie
+use Rattle.joins.proofs.append_is.Statement.{statement}
+use Rattle.joins.proofs.append_is.Tie as tie
 
 -- src/lib.rt:263:9
 returns : tie.Need-returns

@@ -14,7 +14,7 @@ use Rattle.meaning.specs.Lists.{same}
 use Rattle.meaning.specs.Paths.{normal, norm, join}
 use Rattle.theory_paths.specs.Bools.{same-eq, same-refl, eq-same, true-of, of-true, false-of, of-false}
 use Rattle.theory_paths.specs.Normal.{norm-of-normal, norm-normal, norm-append-left, norm-append-right, normal-left}
-use Rattle.paths.specs.Joins.{BothNormal, shape, first-of, norm-doubled}
+use Rattle.joins.specs.Joins.{BothNormal, shape, first-of, norm-doubled}
 
 -- X, with its two equations: t is the old target, y the new one, c the old context and d the new one
 pub record Cut (t y c d : List ℕ) : Type 0 where

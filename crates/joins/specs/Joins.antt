@@ -16,7 +16,7 @@ use Rattle.meaning.specs.Lists.{same}
 use Rattle.meaning.specs.Paths.{normal, norm, join}
 use Rattle.theory_paths.specs.Bools.{and-left, and-right, both, same-eq, same-refl, eq-same, true-of, of-true, false-of, of-false, bool-eq, T-cases, eqb-of}
 use Rattle.theory_paths.specs.Normal.{norm-of-normal, norm-normal, norm-append-left, norm-append-right, normal-left, normal-right, join-nil-left, join-nil-right}
-use Rattle.paths.specs.Forms.{isDoubled, normal-two, same-other-length}
+use Rattle.joins.specs.Forms.{isDoubled, normal-two, same-other-length}
 
 -- two paths in normal form that share their meeting symbol
 pub normal-glue : (x : List ℕ) (s : ℕ) (y : List ℕ) → T (normal (x ++ (s ∷ []))) → T (normal (s ∷ y)) → T (normal (x ++ (s ∷ y)))
