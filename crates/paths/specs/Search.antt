@@ -116,13 +116,13 @@ module _ (P w : List ℕ) (some : length P ≡ 0 → ⊥) (any : getD P 0 0 ≡ 
       first-any (λ (l : List ℕ). Told a l w) P (handed P) some any (part-to-end P 1)
       (taken w n (part-to-end w 1) (subst (λ (f : Found). Told f (handed P) w) e told) a (first-of P some any (part-to-end P 1) h))
     where
-      first-of : (Q : List ℕ) → (length Q ≡ 0 → ⊥) → getD Q 0 0 ≡ 0 → (handed P) ≡ drop 1 Q → Told a Q (handed w) → Told a (zero ∷ (handed P)) (handed w)
+      first-of : (Q : List ℕ) → (length Q ≡ 0 → ⊥) → getD Q 0 0 ≡ 0 → handed P ≡ drop 1 Q → Told a Q (handed w) → Told a (zero ∷ handed P) (handed w)
       first-of [] f g i k = absurd (f refl)
       first-of (zero ∷ Q) f g i k = subst (λ (l : List ℕ). Told a (zero ∷ l) (handed w)) (sym i) k
       first-of (suc b ∷ Q) f g i k = absurd (omega arith)
 
-      taken : (v : List ℕ) → (length v ≡ 0 → ⊥) → (handed w) ≡ drop 1 v → member (handed P) v ≡ false → (b : Found) → Told b (zero ∷ (handed P)) (handed w)
-          → Told b (zero ∷ (handed P)) v
+      taken : (v : List ℕ) → (length v ≡ 0 → ⊥) → handed w ≡ drop 1 v → member (handed P) v ≡ false → (b : Found) → Told b (zero ∷ handed P) (handed w)
+          → Told b (zero ∷ handed P) v
       taken [] f j t b k = absurd (f refl)
       taken (x ∷ v) f j t Word k = ap₂ _||_ t (subst (λ (l : List ℕ). anyEnd (member (handed P)) l ≡ true) j k)
       taken (x ∷ v) f j t NoWord k = ap₂ _||_ t (subst (λ (l : List ℕ). anyEnd (member (handed P)) l ≡ false) j k)
@@ -154,8 +154,8 @@ module _ (P w : List ℕ) (some : length P ≡ 0 → ⊥) (label : getD P 0 0 �
   label-more n e r h =
       first-label (λ (l : List ℕ). Told r l w) P (handed P) some label (part-to-end P 1) (λ a d. taken a w n (e ∙ d) (part-to-end w 1) r h)
     where
-      taken : (a : ℕ) (v : List ℕ) → (length v ≡ 0 → ⊥) → getD v 0 0 ≡ suc a → (handed w) ≡ drop 1 v → (b : Found) → Told b (handed P) (handed w)
-          → Told b (suc a ∷ (handed P)) v
+      taken : (a : ℕ) (v : List ℕ) → (length v ≡ 0 → ⊥) → getD v 0 0 ≡ suc a → handed w ≡ drop 1 v → (b : Found) → Told b (handed P) (handed w)
+          → Told b (suc a ∷ handed P) v
       taken a [] f g j b k = absurd (f refl)
       taken a (x ∷ v) f g j Word k = ap₂ _&&_ (eq-eqb x (suc a) g) (subst (λ (l : List ℕ). member (handed P) l ≡ true) j k)
       taken a (x ∷ v) f g j NoWord k = and-false (eqb x (suc a)) (member (handed P) v) (subst (λ (l : List ℕ). member (handed P) l ≡ false) j k)
