@@ -4,3 +4,4 @@ pub mod Classes
 pub mod Tables
 pub mod Joins
 pub mod Cuts
+pub mod Validity

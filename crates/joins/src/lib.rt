@@ -3,7 +3,7 @@
 use paths::ANY_PATH;
 ghost use mathlib.Core.Path.{_≡_};
 ghost use mathlib.Core.List.{_++_};
-ghost use Rattle.meaning.specs.Lists.{same as isSame};
+ghost use Rattle.meaning.specs.Lists.{every, same as isSame};
 ghost use Rattle.meaning.specs.Paths.{simple as isSimple, normal as isNormal, isElement, valid as isValid, join};
 ghost use Rattle.theory_paths.specs.Valid.{mayStep};
 ghost use Rattle.joins.specs.Forms.{isBeginning, isDoubled};
@@ -185,4 +185,45 @@ pub fn cut_is(target: &[u8], rest: &[u8], context: &[u8], whole: &[u8]) -> bool
     }
     let next = cut + 1;
     join_is(context, &target[..next], whole)
+}
+
+// Each symbol may stand before another.
+fn all_step(p: &[u8], classes: &[u8; 256]) -> bool
+    ensures { λ r. ⌜ r ≡ every (mayStep (classBy (now (classes .entry)))) (now (p .entry)) ⌝ }
+{
+    let mut i = 0;
+    while i < p.len() {
+        if !may_step(p[i], classes) {
+            return false;
+        }
+        i += 1;
+    }
+    true
+}
+
+// x with y behind it is valid.
+fn valid_append(x: &[u8], y: &[u8], classes: &[u8; 256]) -> bool
+    ensures { λ r. ⌜ r ≡ isValid (classBy (now (classes .entry))) (now (x .entry) ++ now (y .entry)) ⌝ }
+{
+    if y.len() == 0 {
+        return valid(x, classes);
+    }
+    if !all_step(x, classes) {
+        return false;
+    }
+    valid(y, classes)
+}
+
+// "C.T.P is valid" for a key path P: refusal 6 asks it of each.
+pub fn valid_joined(context: &[u8], target: &[u8], path: &[u8], classes: &[u8; 256]) -> bool
+    ensures { λ r. ⌜ r ≡ isValid (classBy (now (classes .entry)))
+        (join (join (now (context .entry)) (now (target .entry))) (now (path .entry))) ⌝ }
+{
+    if path.len() == 0 {
+        return valid_append(context, target, classes);
+    }
+    if !all_step(context, classes) {
+        return false;
+    }
+    valid_append(target, path, classes)
 }
