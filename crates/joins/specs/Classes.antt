@@ -1,19 +1,17 @@
 -- The class of a label by a table of the declared labels' classes (0 not declared, 1 element, 2 attribute), and validity by it.
-use Prim.Native.Nat.{ℕ, zero, suc, _≤_, _<_, _+_, _-_}
+use Prim.Native.Nat.{ℕ, suc, _≤_, _<_, _+_, _-_}
 use native.Mathlib.Numerals.{add-one}
 use native.Mathlib.Omega.{arith}
-use mathlib.Core.Path.{_≡_, refl, sym, ap, ap₂, subst, _∙_, fun-ext}
-use mathlib.Core.Logic.{_⊎_, inl, inr, _≢_}
+use mathlib.Core.Path.{_≡_, refl, sym, ap, ap₂, _∙_}
 use mathlib.Core.Bool.{Bool, true, false, cond, _&&_, _||_, not}
-use mathlib.Core.List.{List, [], _∷_, _++_}
-use lib.Dec.{T, eqb, eqb→eq}
-use lib.ListN.{length, drop, getD, set, replicate, drop-of-length-le, List·getD-eq-default, length-drop}
-use lib.Seq.{drop-cons, getD-set-same, getD-set-other}
+use mathlib.Core.List.{List, [], _∷_}
+use lib.Dec.{eqb}
+use lib.ListN.{length, drop, getD, length-drop}
+use lib.Seq.{drop-cons}
 use borrow.Author.Tests.{eq-eqb, ne-eqb}
-use Rattle.meaning.specs.Limits.{textLabel, fillerAttribute, attributeClass, elementClass}
-use Rattle.meaning.specs.Lists.{any}
-use Rattle.meaning.specs.Paths.{Class, element, attribute, text, isElement, Label, declared, declaredClass, classOf, valid}
-use Rattle.theory_paths.specs.Valid.{mayStep, valid-cons}
+use Rattle.meaning.specs.Limits.{textLabel, fillerAttribute, attributeClass}
+use Rattle.meaning.specs.Paths.{Class, element, attribute, text, isElement, valid}
+use Rattle.theory_paths.specs.Valid.{mayStep}
 
 -- text and the filler attribute by rule, the others by the table
 unfoldable pub classBy : List ℕ → ℕ → Class

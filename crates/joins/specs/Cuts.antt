@@ -1,18 +1,17 @@
 -- Rule 7, "context target": whether some X cuts the target before its rest and prolongs the context. There are at most two such X.
-use Prim.Native.Nat.{ℕ, zero, suc, _≤_, _<_, _+_, _-_}
-use native.Mathlib.Numerals.{add-one}
+use Prim.Native.Nat.{ℕ, _≤_, _<_, _+_, _-_}
 use native.Mathlib.Omega.{arith}
 use mathlib.Core.Path.{_≡_, refl, sym, ap, ap₂, subst, _∙_}
-use mathlib.Core.Logic.{_⊎_, inl, inr, ⊎-elim}
+use mathlib.Core.Logic.{⊎-elim}
 use mathlib.Core.Bool.{Bool, true, false}
-use mathlib.Core.List.{List, [], _∷_, _++_, append-assoc}
-use lib.Dec.{T, eqb}
+use mathlib.Core.List.{List, [], _∷_, _++_}
+use lib.Dec.{T}
 use lib.ListN.{length, take, drop, getD, length-append, take-append-drop}
-use lib.Seq.{drop-cons, take-suc, take-append-seam, drop-append-seam, take-append-add}
+use lib.Seq.{take-append-seam, drop-append-seam, take-append-add}
 use borrow.Rule.Slice.PartAt.{part-to-end}
 use Rattle.meaning.specs.Lists.{same}
 use Rattle.meaning.specs.Paths.{normal, norm, join}
-use Rattle.theory_paths.specs.Bools.{same-eq, same-refl, eq-same, true-of, of-true, false-of, of-false}
+use Rattle.theory_paths.specs.Bools.{same-eq, eq-same, true-of, of-true, of-false}
 use Rattle.theory_paths.specs.Normal.{norm-of-normal, norm-normal, norm-append-left, norm-append-right, normal-left}
 use Rattle.joins.specs.Joins.{BothNormal, shape, first-of, norm-doubled}
 

@@ -2,16 +2,16 @@
 use Prim.Native.Nat.{ℕ, zero, suc, _≤_, _<_, _+_, _-_}
 use native.Mathlib.Numerals.{add-one}
 use native.Mathlib.Omega.{arith}
-use mathlib.Core.Path.{_≡_, refl, sym, ap, ap₂, subst, _∙_}
-use mathlib.Core.Bool.{Bool, true, false, _&&_, _||_, not}
+use mathlib.Core.Path.{_≡_, refl, sym, ap, ap₂, _∙_}
+use mathlib.Core.Bool.{Bool, true, false, _&&_, not}
 use mathlib.Core.List.{List, [], _∷_, _++_}
 use lib.Dec.{T, eqb}
-use lib.ListN.{length, take, drop, getD, drop-of-length-le, length-append, take-append-drop}
+use lib.ListN.{length, take, drop, getD, drop-of-length-le, take-append-drop}
 use lib.Seq.{drop-cons, take-all, take-append-seam}
 use borrow.Author.Tests.{eq-eqb, ne-eqb}
 use Rattle.meaning.specs.Lists.{every, same}
 use Rattle.meaning.specs.Paths.{simple, normal}
-use Rattle.theory_paths.specs.Bools.{same-eq, same-refl, eq-same, true-of, of-true, false-of}
+use Rattle.theory_paths.specs.Bools.{same-eq, eq-same, false-of}
 
 -- p begins with s
 unfoldable pub isBeginning : List ℕ → List ℕ → Bool

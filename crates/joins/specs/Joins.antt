@@ -1,21 +1,19 @@
 -- Joins that are tested and not built: of two paths in normal form the join is their append, or their append without the second 0
 -- where the first ends and the second begins with the any-path.
-use Prim.Native.Nat.{ℕ, zero, suc, _≤_, _<_, _+_, _-_}
-use native.Mathlib.Numerals.{add-one}
+use Prim.Native.Nat.{ℕ, zero, suc, _≤_, _<_, _-_}
 use native.Mathlib.Omega.{arith}
 use mathlib.Core.Path.{_≡_, refl, sym, ap, ap₂, subst, _∙_}
 use mathlib.Core.Logic.{_⊎_, inl, inr, ⊎-elim}
 use mathlib.Core.Bool.{Bool, true, false, _&&_, not}
 use mathlib.Core.List.{List, [], _∷_, _++_, append-assoc, append-nil}
 use lib.Dec.{T, eqb, eqb→eq}
-use lib.ListN.{length, take, drop, getD, length-append, length-take, length-drop, take-append-drop}
-use lib.Seq.{drop-cons, take-suc, take-length, drop-length, take-append-seam, drop-append-seam, take-all}
-use borrow.Author.Tests.{eq-eqb, ne-eqb, eqb-true}
+use lib.ListN.{length, take, drop, getD, length-append}
+use lib.Seq.{take-suc, take-length}
 use borrow.Rule.Slice.PartAt.{part-to-end}
 use Rattle.meaning.specs.Lists.{same}
 use Rattle.meaning.specs.Paths.{normal, norm, join}
-use Rattle.theory_paths.specs.Bools.{and-left, and-right, both, same-eq, same-refl, eq-same, true-of, of-true, false-of, of-false, bool-eq, T-cases, eqb-of}
-use Rattle.theory_paths.specs.Normal.{norm-of-normal, norm-normal, norm-append-left, norm-append-right, normal-left, normal-right, join-nil-left, join-nil-right}
+use Rattle.theory_paths.specs.Bools.{and-left, and-right, of-true, T-cases, eqb-of}
+use Rattle.theory_paths.specs.Normal.{norm-of-normal, norm-append-right, join-nil-left, join-nil-right}
 use Rattle.joins.specs.Forms.{isDoubled, normal-two, same-other-length}
 
 -- two paths in normal form that share their meeting symbol

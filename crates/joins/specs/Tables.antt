@@ -1,6 +1,5 @@
 -- A table that holds the classes of a profile's labels: classes and validity by it are those of the labels; how it starts and grows.
-use Prim.Native.Nat.{ℕ, zero, suc, _≤_, _<_}
-use native.Mathlib.Omega.{arith}
+use Prim.Native.Nat.{ℕ, zero, suc, _<_}
 use mathlib.Core.Path.{_≡_, refl, sym, ap, ap₂, subst, _∙_, fun-ext}
 use mathlib.Core.Logic.{_⊎_, inl, inr, ⊎-elim}
 use mathlib.Core.Bool.{Bool, true, false, cond, _||_}
@@ -8,7 +7,7 @@ use mathlib.Core.List.{List, [], _∷_, _++_}
 use lib.Dec.{T, eqb, eqb→eq}
 use lib.ListN.{length, getD, set, replicate}
 use lib.Seq.{getD-set-same, getD-set-other}
-use borrow.Author.Tests.{eq-eqb, ne-eqb}
+use borrow.Author.Tests.{eq-eqb}
 use Rattle.meaning.specs.Limits.{textLabel, fillerAttribute, attributeClass, elementClass}
 use Rattle.meaning.specs.Lists.{any}
 use Rattle.meaning.specs.Paths.{Class, element, attribute, text, isAttribute, Label, declared, declaredClass, classOf, valid}

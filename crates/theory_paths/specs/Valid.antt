@@ -1,12 +1,12 @@
 -- "A path is valid if an attribute or text label stands only last": of parts, of an append, of the normal form.
 use Prim.Native.Nat.{ℕ, zero, suc}
-use mathlib.Core.Path.{_≡_, refl, sym, ap, ap₂, subst, _∙_}
-use mathlib.Core.Bool.{Bool, true, false, _&&_, _||_}
+use mathlib.Core.Path.{_≡_, refl, sym, ap₂, subst, _∙_}
+use mathlib.Core.Bool.{Bool, true, _&&_, _||_}
 use mathlib.Core.List.{List, [], _∷_, _++_}
 use lib.Dec.{T, eqb}
 use Rattle.meaning.specs.Lists.{isEmpty, every}
 use Rattle.meaning.specs.Paths.{Class, isElement, norm, join, valid}
-use Rattle.theory_paths.specs.Bools.{bool-eq, and-left, and-right, both, or-right, every-left}
+use Rattle.theory_paths.specs.Bools.{bool-eq, and-left, and-right, both, or-right}
 
 -- a symbol that may stand before another
 unfoldable pub mayStep : (ℕ → Class) → ℕ → Bool
