@@ -1,0 +1,3 @@
+-- ARGUMENT §6: the tree of 01's "The counterexample that is written" keeps the profile and breaks the question.
+pub mod Doubled
+pub mod Climb
