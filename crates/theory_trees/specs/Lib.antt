@@ -1,0 +1,4 @@
+-- ARGUMENT 2: trees as tables, reach, and the laws of value equality.
+pub mod Below
+pub mod Children
+pub mod Laws
