@@ -1,3 +1,4 @@
 -- ARGUMENT §6: the tree of 01's "The counterexample that is written" keeps the profile and breaks the question.
 pub mod Doubled
 pub mod Climb
+pub mod Twins
