@@ -72,19 +72,19 @@ module _ {κ : ℕ → Class} {p : Table} {mark : ℕ → Bool} {u : ℕ} {w : T
       go (inl r) =
           inr
           (record {
-              front = [];
-              whole =
-                  ap (λ (k : ℕ). k ∷ ls) (sym m ∙ ap (λ (n : ℕ). w .label n) (r .0) ∙ W .labels s h)
-                  ∙ ap (λ (k : List ℕ). fillerAttribute ∷ k) (r .1);
-              owner = record { node = y; inside = h .inside; here = child-filler s y c (r .0) h; down = here refl };
-            })
+            front = [];
+            whole =
+                ap (λ (k : ℕ). k ∷ ls) (sym m ∙ ap (λ (n : ℕ). w .label n) (r .0) ∙ W .labels s h)
+                ∙ ap (λ (k : List ℕ). fillerAttribute ∷ k) (r .1);
+            owner = record { node = y; inside = h .inside; here = child-filler s y c (r .0) h; down = here refl };
+          })
       go (inr r) =
           inr
           (record {
-              front = l ∷ r .front;
-              whole = ap (λ (k : List ℕ). l ∷ k) (r .whole);
-              owner = above-step s y c m (r .owner);
-            })
+            front = l ∷ r .front;
+            whole = ap (λ (k : List ℕ). l ∷ k) (r .whole);
+            owner = above-step s y c m (r .owner);
+          })
 
   -- and back: a run of the pattern is one of each copy
   pub positive : (s : Bool) (x : ℕ) → 0 < x → x < p .size → 0 < W .number s x false
@@ -98,8 +98,8 @@ module _ {κ : ℕ → Class} {p : Table} {mark : ℕ → Bool} {u : ℕ} {w : T
   lifted s (step z c l d) =
       step (W .number s z false)
       (record {
-          notRoot = positive s z (c .notRoot) (c .inside);
-          inside = W .within s (own (c .inside));
-          below = W .parentOwn s z (c .notRoot) (c .inside) ∙ ap (λ (n : ℕ). W .number s n false) (c .below);
-        })
+        notRoot = positive s z (c .notRoot) (c .inside);
+        inside = W .within s (own (c .inside));
+        below = W .parentOwn s z (c .notRoot) (c .inside) ∙ ap (λ (n : ℕ). W .number s n false) (c .below);
+      })
       (W .labels s (own (c .inside)) ∙ l) (lifted s d)

@@ -2,3 +2,5 @@
 pub mod Doubled
 pub mod Climb
 pub mod Twins
+pub mod Ending
+pub mod Crossing

@@ -100,10 +100,10 @@ module _ {κ : ℕ → Class} {p : Table} {mark : ℕ → Bool} {u : ℕ} {w : T
       let vi = W .valueLeaf s (i .stands) (subst (λ (k : ℕ). T (not (isElement (κ (w .label k))))) (i .here) a) in
       let vj = W .valueLeaf s′ (j .stands) (subst (λ (k : ℕ). T (not (isElement (κ (w .label k))))) (j .here) b) in
       let eq : W .number (s && not (mark x)) x (i .filler) ≡ W .number (s′ && not (mark x′)) x′ (j .filler) =
-          sym vi ∙ ap (λ (k : ℕ). w .value k) (sym (i .here)) ∙ v ∙ ap (λ (k : ℕ). w .value k) (j .here) ∙ vj in
+      sym vi ∙ ap (λ (k : ℕ). w .value k) (sym (i .here)) ∙ v ∙ ap (λ (k : ℕ). w .value k) (j .here) ∙ vj in
       let r = W .apart (i .stands) (j .stands) eq in
       let e : m ≡ W .number s′ x (i .filler) =
-          j .here ∙ ap (λ (k : ℕ). W .number s′ k (j .filler)) (sym (r .0)) ∙ ap (λ (k : Bool). W .number s′ x k) (sym (r .1)) in
+      j .here ∙ ap (λ (k : ℕ). W .number s′ k (j .filler)) (sym (r .0)) ∙ ap (λ (k : Bool). W .number s′ x k) (sym (r .1)) in
       record {
         firstCopy = s;
         secondCopy = s′;
@@ -173,10 +173,10 @@ module _ {κ : ℕ → Class} {p : Table} {mark : ℕ → Bool} {u : ℕ} {w : T
   equal-twins {n} {m} hn hm (elements l e ats os) =
       let i = own-spot e (W .spot n hn) in
       let st : Stands κ p (i .1) true =
-          record {
-            inside = i .2;
-            owner = λ t. subst (λ (k : ℕ). T (isElement (κ k))) (ap (λ (k : ℕ). w .label k) (i .3) ∙ W .labels (i .0) (own D W (i .2))) e;
-          } in
+      record {
+        inside = i .2;
+        owner = λ t. subst (λ (k : ℕ). T (isElement (κ k))) (ap (λ (k : ℕ). w .label k) (i .3) ∙ W .labels (i .0) (own D W (i .2))) e;
+      } in
       let c = W .number (i .0) (i .1) true in
       let nc = filler-child (i .0) (i .3) st in
       let mate = equal-child (written-tree D W) (elements l e ats os) nc in
