@@ -4,3 +4,5 @@ pub mod Climb
 pub mod Twins
 pub mod Ending
 pub mod Crossing
+pub mod Ranges
+pub mod Copies
