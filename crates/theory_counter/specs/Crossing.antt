@@ -77,7 +77,7 @@ reached-run : {t : Table} {a x : ℕ} {P : List ℕ} → T (simple P) → (r : R
 reached-run {P = P} s r = simple-word P (r .run) s (member→word P (r .run) (r .word))
 
 -- below a node of the table stand nodes of the table
-down-inside : {t : Table} {v n : ℕ} {run : List ℕ} → v < t .size → Down t v run n → n < t .size
+pub down-inside : {t : Table} {v n : ℕ} {run : List ℕ} → v < t .size → Down t v run n → n < t .size
 down-inside h (here q) = omega arith
 down-inside h (step x c l d) = down-inside (c .inside) d
 

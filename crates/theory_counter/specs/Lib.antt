@@ -6,3 +6,4 @@ pub mod Ending
 pub mod Crossing
 pub mod Ranges
 pub mod Copies
+pub mod Breaking
