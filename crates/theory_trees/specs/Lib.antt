@@ -2,3 +2,4 @@
 pub mod Below
 pub mod Children
 pub mod Laws
+pub mod Climb
