@@ -3,3 +3,4 @@ pub mod Below
 pub mod Children
 pub mod Laws
 pub mod Climb
+pub mod Reach
