@@ -123,9 +123,9 @@ reaches-complete t small v path w r =
     reaches-from-complete t v path small w (r .run) [] w (r .down) (let g = down-greater small (r .down) in omega arith)
     (subst (λ (s : List ℕ). T (member path s)) (sym (append-nil (r .run))) (r .word))
 
+pub T-dec : (b : Bool) → Dec (T b)
+T-dec true = yes tt
+T-dec false = no (λ h. h)
+
 pub reached? : (t : Table) → ParentsSmaller t → (v : ℕ) (path : List ℕ) (w : ℕ) → Dec (Reached t v path w)
 reached? t small v path w = map-dec (reaches-sound t v path w) (reaches-complete t small v path w) (T-dec (reaches t v path w))
-  where
-    T-dec : (b : Bool) → Dec (T b)
-    T-dec true = yes tt
-    T-dec false = no (λ h. h)

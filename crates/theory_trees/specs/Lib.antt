@@ -4,3 +4,4 @@ pub mod Children
 pub mod Laws
 pub mod Climb
 pub mod Reach
+pub mod Sameness
