@@ -5,3 +5,4 @@ pub mod Laws
 pub mod Climb
 pub mod Reach
 pub mod Sameness
+pub mod Breaking
