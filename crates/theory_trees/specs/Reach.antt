@@ -6,8 +6,8 @@ use lib.Dec.{T}
 use lib.ListN.{length}
 use Rattle.meaning.specs.Paths.{Class, member, join, simple}
 use Rattle.meaning.specs.Trees.{Table, IsTree, Down, here, step, Reached, Equal}
-use Rattle.theory_paths.specs.Words.{Word, member→word, word→member, word-refl, word-trans}
-use Rattle.theory_paths.specs.Normal.{word-join, join-split}
+use Rattle.theory_paths.specs.Words.{Word, member→word, word→member, word-refl, word-split, word-trans}
+use Rattle.theory_paths.specs.Normal.{word-join, word-join→}
 use Rattle.theory_paths.specs.Simple.{simple-word}
 use Rattle.theory_trees.specs.Below.{Way, down-append, down-split, down-inside, rigid-node}
 use Rattle.theory_trees.specs.Laws.{DownMate, equal-down}
@@ -44,11 +44,14 @@ module _ {t : Table} where
   reached-append {P = P} {Q = Q} r s =
       reached-by (down-append (r .down) (s .down)) (word-join P Q (r .run) (s .run) (reached-word r) (reached-word s))
 
-  pub reached-split : {v x : ℕ} (P Q : List ℕ) → Reached t v (join P Q) x → ReachedWay t v P Q x
-  reached-split {v} {x} P Q r =
-      let (u, w, e, h, k) = join-split P Q (r .run) (reached-word r) in
+  pub reached-append-split : {v x : ℕ} (P Q : List ℕ) → Reached t v (P ++ Q) x → ReachedWay t v P Q x
+  reached-append-split {v} {x} P Q r =
+      let (u, w, e, h, k) = word-split P Q (r .run) (reached-word r) in
       let way = down-split u w (subst (λ (run : List ℕ). Down t v run x) e (r .down)) in
       record { node = way .node; above = reached-by (way .above) h; below = reached-by (way .below) k }
+
+  pub reached-split : {v x : ℕ} (P Q : List ℕ) → Reached t v (join P Q) x → ReachedWay t v P Q x
+  reached-split P Q r = reached-append-split P Q (reached-by (r .down) (word-join→ P Q (r .run) (reached-word r)))
 
   -- by a wider path: P, read as a run, is a word of Q
   pub reached-wider : {v w : ℕ} {P Q : List ℕ} → Word Q P → Reached t v P w → Reached t v Q w

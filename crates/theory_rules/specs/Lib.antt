@@ -1,0 +1,2 @@
+-- ARGUMENT 3: the rules are sound, tree by tree.
+pub mod Rules
