@@ -6,3 +6,4 @@ pub mod Climb
 pub mod Reach
 pub mod Sameness
 pub mod Breaking
+pub mod Files
