@@ -7,3 +7,5 @@ pub mod Crossing
 pub mod Ranges
 pub mod Copies
 pub mod Breaking
+pub mod Numbered
+pub mod Lines
