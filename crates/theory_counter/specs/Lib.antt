@@ -9,3 +9,4 @@ pub mod Copies
 pub mod Breaking
 pub mod Numbered
 pub mod Lines
+pub mod Drawing
