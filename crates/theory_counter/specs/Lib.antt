@@ -10,3 +10,4 @@ pub mod Breaking
 pub mod Numbered
 pub mod Lines
 pub mod Drawing
+pub mod PatternLaws

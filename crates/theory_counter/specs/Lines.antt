@@ -140,7 +140,7 @@ unfoldable pub longs : List (List ℕ) → Type 0
 longs [] = Unit {0}
 longs (p ∷ S) = (0 < length p) × longs S
 
-ends-after : (t n y : ℕ) (S : List (List ℕ)) → longs S → T (any (eqb y) (ends t n S)) → n ≤ y
+pub ends-after : (t n y : ℕ) (S : List (List ℕ)) → longs S → T (any (eqb y) (ends t n S)) → n ≤ y
 unfolding any ends longs isEmpty
 ends-after t n y [] h k = absurd k
 ends-after t n y ([] ∷ S) h k = absurd (omega (arith, h .0))
