@@ -11,3 +11,4 @@ pub mod Numbered
 pub mod Lines
 pub mod Drawing
 pub mod PatternLaws
+pub mod PatternTree

@@ -79,10 +79,10 @@ use Rattle.theory_counter.specs.Drawing.{
 
 -- The nodes behind the root
 module _ (asked : Key) where
-  chain : List Node
+  unfoldable pub chain : List Node
   chain = run 0 1 (asked .context ++ asked .target)
 
-  twigs : List Node
+  unfoldable pub twigs : List Node
   twigs = branches (tOf asked) (suc (tOf asked)) (asked .paths)
 
   pub chain-length : length (run 0 1 (asked .context ++ asked .target)) ≡ tOf asked
@@ -118,10 +118,10 @@ module _ (asked : Key) where
       go : {x : Node} {xs : List Node} → Numbered (Is (patternNodes asked)) 0 (x ∷ xs) → Numbered (Is (patternNodes asked)) 1 xs
       go (next q l) = l
 
-  chain-here : Numbered (Is (patternNodes asked)) 1 chain
+  pub chain-here : Numbered (Is (patternNodes asked)) 1 chain
   chain-here = numbered-left chain twigs whole-parts
 
-  twigs-here : Numbered (Is (patternNodes asked)) (suc (tOf asked)) twigs
+  pub twigs-here : Numbered (Is (patternNodes asked)) (suc (tOf asked)) twigs
   twigs-here = numbered-right (suc (tOf asked)) chain twigs seam whole-parts
 
   pub pattern-hangs : (x : ℕ) → 0 < x → x < length (patternNodes asked) → Hangs (tOf asked) x (getD (patternNodes asked) x noNode)
@@ -190,7 +190,7 @@ ends-least t n y ((s ∷ p) ∷ S) h k =
     (λ q. ends-least t (n + suc (length p)) y S (omega arith) q)
     (or-cases (eqb y (n + suc (length p) - 1)) (any (eqb y) (ends t (n + suc (length p)) S)) k)
 
-branches-marks : (whole : List Node) (mark : ℕ → Bool) (t n : ℕ) (S : List (List ℕ)) → Numbered (Is whole) n (branches t n S) → 0 < n
+pub branches-marks : (whole : List Node) (mark : ℕ → Bool) (t n : ℕ) (S : List (List ℕ)) → Numbered (Is whole) n (branches t n S) → 0 < n
     → n + total S ≤ length whole → ((e : ℕ) → T (any (eqb e) (ends t n S)) → T (mark e)) → Each (Marks (tableOf whole) mark t) S
 unfolding branches total ends any
 branches-marks whole mark t n [] l pos fits h = end
@@ -215,7 +215,7 @@ branches-marks whole mark t n (p ∷ S) l pos fits h =
 
 module _ (asked : Key) where
   -- a mark, by cases: whether S holds the empty path
-  end-marked : (e : ℕ) → T (any (eqb e) (ends (tOf asked) (suc (tOf asked)) (asked .paths))) → T (marked asked e)
+  pub end-marked : (e : ℕ) → T (any (eqb e) (ends (tOf asked) (suc (tOf asked)) (asked .paths))) → T (marked asked e)
   unfolding marked
   end-marked e h = go (any isEmpty (asked .paths))
     where
