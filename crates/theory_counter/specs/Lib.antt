@@ -12,3 +12,4 @@ pub mod Lines
 pub mod Drawing
 pub mod PatternLaws
 pub mod PatternTree
+pub mod Leading
