@@ -13,3 +13,5 @@ pub mod Drawing
 pub mod PatternLaws
 pub mod PatternTree
 pub mod Leading
+pub mod Places
+pub mod Doubling
