@@ -15,3 +15,4 @@ pub mod PatternTree
 pub mod Leading
 pub mod Places
 pub mod Doubling
+pub mod Flattened
