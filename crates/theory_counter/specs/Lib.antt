@@ -16,3 +16,4 @@ pub mod Leading
 pub mod Places
 pub mod Doubling
 pub mod Flattened
+pub mod Dressing

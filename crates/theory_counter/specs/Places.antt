@@ -50,6 +50,26 @@ bit-below false e h = omega arith
 bit-below true true h = omega arith
 bit-below true false h = absurd (h tt)
 
+-- a count that never falls
+rises : (size : ℕ) (place : ℕ → ℕ) → ((x : ℕ) → x < size → place x ≤ place (suc x)) → (more x : ℕ) → x + more ≤ size → place x ≤ place (x + more)
+rises size place s zero x h =
+    let e : x ≡ x + zero = omega arith in
+    let q = ap place e in
+    omega arith
+rises size place s (suc more) x h =
+    let e : suc x + more ≡ x + suc more = omega arith in
+    let q = ap place e in
+    let r = rises size place s more (suc x) (omega arith) in
+    let t = s x (omega arith) in
+    omega arith
+
+pub steps-rise : (size : ℕ) (place : ℕ → ℕ) → ((x : ℕ) → x < size → place x ≤ place (suc x)) → (x y : ℕ) → x ≤ y → y ≤ size → place x ≤ place y
+steps-rise size place s x y l h =
+    let e : x + (y - x) ≡ y = omega arith in
+    let q = ap place e in
+    let r = rises size place s (y - x) x (omega arith) in
+    omega arith
+
 -- Where the nodes stand before they are doubled: "Each element is followed at once by a filler attribute"
 pub record Placing (κ : ℕ → Class) (p : Table) (u : ℕ) (place : ℕ → ℕ) (cut gap : ℕ) : Type 0 where
   pub start : place 0 ≡ 0
@@ -65,18 +85,8 @@ module _ {κ : ℕ → Class} {p : Table} {u : ℕ} {place : ℕ → ℕ} {cut g
       let b = bit-below f (isElement (κ (p .label x))) (st .owner) in
       omega arith
 
-  rises : (more x : ℕ) → x + more ≤ p .size → place x ≤ place (x + more)
-  rises zero x h = let e : x + zero ≡ x = omega arith in subst (λ (k : ℕ). place x ≤ place k) (sym e) (omega arith)
-  rises (suc more) x h =
-      let e : suc x + more ≡ x + suc more = omega arith in
-      let r = subst (λ (k : ℕ). place (suc x) ≤ place k) e (rises more (suc x) (omega arith)) in
-      let s = P .steps x (omega arith) in
-      omega arith
-
   pub place-rises : (x y : ℕ) → x ≤ y → y ≤ p .size → place x ≤ place y
-  place-rises x y l h =
-      let e : x + (y - x) ≡ y = omega arith in
-      subst (λ (k : ℕ). place x ≤ place k) e (rises (y - x) x (omega arith))
+  place-rises x y l h = steps-rise (p .size) place (λ (k : ℕ) (i : k < p .size). let e = P .steps k i in omega arith) x y l h
 
   pub place-above : {x y : ℕ} {f g : Bool} → x < y → Stands κ p x f → Stands κ p y g → place x + bit f < place y
   place-above {x} {y} l a b =
