@@ -17,3 +17,4 @@ pub mod Places
 pub mod Doubling
 pub mod Flattened
 pub mod Dressing
+pub mod WrittenLaws
