@@ -18,3 +18,4 @@ pub mod Doubling
 pub mod Flattened
 pub mod Dressing
 pub mod WrittenLaws
+pub mod WrittenTable
