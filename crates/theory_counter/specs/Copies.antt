@@ -102,35 +102,35 @@ module _ {κ : ℕ → Class} {p : Table} {mark : ℕ → Bool} {u : ℕ} {w : T
     unfolding childOf
     copy-child c n pos i =
         let e : n + W .gap ≡ W .number true (i .node) (i .filler) =
-            ap (λ (k : ℕ). k + W .gap) (i .here) ∙ sym (W .secondCopy (i .stands) (i .below)) in
+        ap (λ (k : ℕ). k + W .gap) (i .here) ∙ sym (W .secondCopy (i .stands) (i .below)) in
         let a = up-of false n (i .node) (i .filler) pos (i .here) (i .stands) in
         let b = up-of true (n + W .gap) (i .node) (i .filler) (omega arith) e (i .stands) in
         let y = up p (i .node) (i .filler) in
         let l : w .label n ≡ w .label (n + W .gap) =
-            ap (λ (k : ℕ). w .label k) (i .here) ∙ W .labels false (i .stands) ∙ sym (W .labels true (i .stands)) ∙ ap (λ (k : ℕ). w .label k) (sym e) in
+        ap (λ (k : ℕ). w .label k) (i .here) ∙ W .labels false (i .stands) ∙ sym (W .labels true (i .stands)) ∙ ap (λ (k : ℕ). w .label k) (sym e) in
         let there : w .parent n ≡ W .number false z false → w .parent (n + W .gap) ≡ W .number true z false =
-            λ q.
-            b .parent
-            ∙ ap (λ (k : ℕ). W .number true k false) (W .apart (own D W (a .inside)) (own D W hz) (sym (a .parent) ∙ q) .0) in
+        λ q.
+        b .parent
+        ∙ ap (λ (k : ℕ). W .number true k false) (W .apart (own D W (a .inside)) (own D W hz) (sym (a .parent) ∙ q) .0) in
         let back : w .parent (n + W .gap) ≡ W .number true z false → w .parent n ≡ W .number false z false =
-            λ q.
-            a .parent
-            ∙ ap (λ (k : ℕ). W .number false k false) (W .apart (own D W (b .inside)) (own D W hz) (sym (b .parent) ∙ q) .0) in
+        λ q.
+        a .parent
+        ∙ ap (λ (k : ℕ). W .number false k false) (W .apart (own D W (b .inside)) (own D W hz) (sym (b .parent) ∙ q) .0) in
         let v = W .number false z false in
         let v′ = W .number true z false in
         bool-eq (eqb (w .parent n) v && c (w .label n)) (eqb (w .parent (n + W .gap)) v′ && c (w .label (n + W .gap)))
         (λ t.
-         both (eqb (w .parent (n + W .gap)) v′) (c (w .label (n + W .gap)))
-         (subst (λ (k : ℕ). T (eqb k v′))
-         (sym (there (eqb→eq (w .parent n) v (and-left (eqb (w .parent n) v) (c (w .label n)) t)))) (eqb-refl v′))
-         (subst (λ (k : ℕ). T (c k)) l (and-right (eqb (w .parent n) v) (c (w .label n)) t)))
+        both (eqb (w .parent (n + W .gap)) v′) (c (w .label (n + W .gap)))
+        (subst (λ (k : ℕ). T (eqb k v′))
+        (sym (there (eqb→eq (w .parent n) v (and-left (eqb (w .parent n) v) (c (w .label n)) t)))) (eqb-refl v′))
+        (subst (λ (k : ℕ). T (c k)) l (and-right (eqb (w .parent n) v) (c (w .label n)) t)))
         (λ t.
-         both (eqb (w .parent n) v) (c (w .label n))
-         (subst (λ (k : ℕ). T (eqb k v))
-         (sym
-         (back (eqb→eq (w .parent (n + W .gap)) v′ (and-left (eqb (w .parent (n + W .gap)) v′) (c (w .label (n + W .gap))) t))))
-         (eqb-refl v))
-         (subst (λ (k : ℕ). T (c k)) (sym l) (and-right (eqb (w .parent (n + W .gap)) v′) (c (w .label (n + W .gap))) t)))
+        both (eqb (w .parent n) v) (c (w .label n))
+        (subst (λ (k : ℕ). T (eqb k v))
+        (sym
+        (back (eqb→eq (w .parent (n + W .gap)) v′ (and-left (eqb (w .parent (n + W .gap)) v′) (c (w .label (n + W .gap))) t))))
+        (eqb-refl v))
+        (subst (λ (k : ℕ). T (c k)) (sym l) (and-right (eqb (w .parent (n + W .gap)) v′) (c (w .label (n + W .gap))) t)))
 
     child-none : (c : ℕ → Bool) (v n : ℕ) → w .parent n ≢ v → childOf w c v n ≡ false
     unfolding childOf
@@ -163,25 +163,25 @@ module _ {κ : ℕ → Class} {p : Table} {mark : ℕ → Bool} {u : ℕ} {w : T
         let f = childOf w c v in
         let g = childOf w c v′ in
         let trunk : (k : Bool) → keep (childOf w c (W .number k z false)) (numbers (cut - 1) 1) ≡ [] =
-            λ k.
-            keep-none (childOf w c (W .number k z false)) (cut - 1) 1
-            (λ n l r. child-none c (W .number k z false) n (trunk-none k n (omega arith) (omega arith))) in
+        λ k.
+        keep-none (childOf w c (W .number k z false)) (cut - 1) 1
+        (λ n l r. child-none c (W .number k z false) n (trunk-none k n (omega arith) (omega arith))) in
         let behind : keep f (numbers gap (cut + gap)) ≡ [] =
-            keep-none f gap (cut + gap)
-            (λ n l r.
-             child-none c v n (copy-none false true n false≢true (omega arith) (in-second n l (W .spot n (inside-size n r))))) in
+        keep-none f gap (cut + gap)
+        (λ n l r.
+        child-none c v n (copy-none false true n false≢true (omega arith) (in-second n l (W .spot n (inside-size n r))))) in
         let front : keep g (numbers gap cut) ≡ [] =
-            keep-none g gap cut
-            (λ n l r.
-             child-none c v′ n (copy-none true false n true≢false (omega arith) (in-first n l r (W .spot n (inside-size n (omega arith)))))) in
+        keep-none g gap cut
+        (λ n l r.
+        child-none c v′ n (copy-none true false n true≢false (omega arith) (in-first n l r (W .spot n (inside-size n (omega arith)))))) in
         let left : keep f (numbers (w .size - 1) 1) ≡ keep f (numbers gap cut) =
-            ap (λ (k : ℕ). keep f (numbers (k - 1) 1)) (W .sizes) ∙ keep-three f cut gap pos
-            ∙ ap (λ (l : List ℕ). l ++ (keep f (numbers gap cut) ++ keep f (numbers gap (cut + gap)))) (trunk false)
-            ∙ ap (λ (l : List ℕ). keep f (numbers gap cut) ++ l) behind ∙ append-nil (keep f (numbers gap cut)) in
+        ap (λ (k : ℕ). keep f (numbers (k - 1) 1)) (W .sizes) ∙ keep-three f cut gap pos
+        ∙ ap (λ (l : List ℕ). l ++ (keep f (numbers gap cut) ++ keep f (numbers gap (cut + gap)))) (trunk false)
+        ∙ ap (λ (l : List ℕ). keep f (numbers gap cut) ++ l) behind ∙ append-nil (keep f (numbers gap cut)) in
         let right : keep g (numbers (w .size - 1) 1) ≡ keep g (numbers gap (cut + gap)) =
-            ap (λ (k : ℕ). keep g (numbers (k - 1) 1)) (W .sizes) ∙ keep-three g cut gap pos
-            ∙ ap (λ (l : List ℕ). l ++ (keep g (numbers gap cut) ++ keep g (numbers gap (cut + gap)))) (trunk true)
-            ∙ ap (λ (l : List ℕ). l ++ keep g (numbers gap (cut + gap))) front in
+        ap (λ (k : ℕ). keep g (numbers (k - 1) 1)) (W .sizes) ∙ keep-three g cut gap pos
+        ∙ ap (λ (l : List ℕ). l ++ (keep g (numbers gap cut) ++ keep g (numbers gap (cut + gap)))) (trunk true)
+        ∙ ap (λ (l : List ℕ). l ++ keep g (numbers gap (cut + gap))) front in
         subst (λ (l : List ℕ). EqualLists κ w l (keep g (numbers (w .size - 1) 1))) (sym left)
         (subst (λ (l : List ℕ). EqualLists κ w (keep f (numbers gap cut)) l) (sym right)
         (paired-ranges κ w f g gap gap cut (cut + gap) refl
@@ -192,7 +192,7 @@ module _ {κ : ℕ → Class} {p : Table} {mark : ℕ → Bool} {u : ℕ} {w : T
         pair n pos i q =
             let a = up-of false n (i .node) (i .filler) pos (i .here) (i .stands) in
             let e : n + W .gap ≡ W .number true (i .node) (i .filler) =
-                ap (λ (k : ℕ). k + W .gap) (i .here) ∙ sym (W .secondCopy (i .stands) (i .below)) in
+            ap (λ (k : ℕ). k + W .gap) (i .here) ∙ sym (W .secondCopy (i .stands) (i .below)) in
             subst (λ (k : ℕ). Equal κ w k (n + W .gap)) (sym (i .here))
             (subst (λ (k : ℕ). Equal κ w (W .number false (i .node) (i .filler)) k) (sym e)
             (equal (i .node) (i .filler) (i .stands) (i .below)

@@ -67,13 +67,13 @@ module _ {κ : ℕ → Class} {p : Table} {u : ℕ} {place : ℕ → ℕ} {cut g
       go (once q l) (twice h′ m′ q′) =
           absurd
           (let w = place-within P a in
-           let c = place-below P x′ h′ (b .inside) in
-           omega arith)
+          let c = place-below P x′ h′ (b .inside) in
+          omega arith)
       go (twice h m q) (once q′ l′) =
           absurd
           (let w = place-within P b in
-           let c = place-below P x h (a .inside) in
-           omega arith)
+          let c = place-below P x h (a .inside) in
+          omega arith)
 
   pub number-above : (s : Bool) (x y : ℕ) (f g : Bool) → x < y → Stands κ p x f → Stands κ p y g
       → numberOf place u gap s x f < numberOf place u gap s y g

@@ -149,7 +149,7 @@ module _ (κ : ℕ → Class) (asked : Key) where
         all =
             let n = length (patternNodes asked) in
             let r =
-                steps-rise n (placeOf κ asked) (λ (k : ℕ) (i : k < n). let e = place-step κ asked k i in omega arith) (suc u) n h (omega arith) in
+            steps-rise n (placeOf κ asked) (λ (k : ℕ) (i : k < n). let e = place-step κ asked k i in omega arith) (suc u) n h (omega arith) in
             let e = dressed-all κ asked in
             omega arith;
       }

@@ -19,3 +19,4 @@ pub mod Flattened
 pub mod Dressing
 pub mod WrittenLaws
 pub mod WrittenTable
+pub mod Counterexample

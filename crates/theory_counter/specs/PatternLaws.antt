@@ -200,15 +200,15 @@ branches-marks whole mark t n (p ∷ S) l pos fits h =
     let here : T (eqb z (cond (isEmpty p) t (n + length p - 1))) = subst (λ (k : ℕ). T (eqb z k)) (last-end t n p) (eqb-refl z) in
     also
     (record {
-        node = z;
-        isMarked = h z (or-left (eqb z (cond (isEmpty p) t (n + length p - 1))) (any (eqb z) (ends t (n + length p) S)) here);
-        reached =
-            record {
-              run = map drawn p;
-              down = run-down whole t n p (numbered-left (run t n p) (branches t (n + length p) S) l) pos (omega arith);
-              word = drawn-member p;
-            };
-      })
+      node = z;
+      isMarked = h z (or-left (eqb z (cond (isEmpty p) t (n + length p - 1))) (any (eqb z) (ends t (n + length p) S)) here);
+      reached =
+          record {
+            run = map drawn p;
+            down = run-down whole t n p (numbered-left (run t n p) (branches t (n + length p) S) l) pos (omega arith);
+            word = drawn-member p;
+          };
+    })
     (branches-marks whole mark t (n + length p) S (numbered-right (n + length p) (run t n p) (branches t (n + length p) S) e l) (omega arith)
     (omega arith)
     (λ k q. h k (or-right (eqb k (cond (isEmpty p) t (n + length p - 1))) (any (eqb k) (ends t (n + length p) S)) q)))
@@ -234,10 +234,10 @@ module _ (asked : Key) where
       (joined asked
       (numbered-map
       (λ m x a b (c : Hangs (tOf asked) m x) q.
-       let r = ends-after (tOf asked) (suc (tOf asked)) (x .parent) (asked .paths) (longs-of (asked .paths) e) q in
-       let l = chain-length asked in
-       let h = c .above in
-       omega arith)
+      let r = ends-after (tOf asked) (suc (tOf asked)) (x .parent) (asked .paths) (longs-of (asked .paths) e) q in
+      let l = chain-length asked in
+      let h = c .above in
+      omega arith)
       (chain-hangs (tOf asked) 0 1 (asked .context ++ asked .target) refl))
       (ends-bare (tOf asked) (suc (tOf asked)) (asked .paths) (omega arith) (longs-of (asked .paths) e)))
 

@@ -62,13 +62,13 @@ paired-ranges κ t f g gap (suc count) start later e same equal =
     go true p c q rest =
         subst
         (λ (x : Bool).
-         EqualLists κ t (cond (f start) (start ∷ keep f (numbers count (suc start))) (keep f (numbers count (suc start))))
-         (cond x (later ∷ keep g (numbers count (suc later))) (keep g (numbers count (suc later)))))
+        EqualLists κ t (cond (f start) (start ∷ keep f (numbers count (suc start))) (keep f (numbers count (suc start))))
+        (cond x (later ∷ keep g (numbers count (suc later))) (keep g (numbers count (suc later)))))
         (sym p ∙ q)
         (subst
         (λ (x : Bool).
-         EqualLists κ t (cond x (start ∷ keep f (numbers count (suc start))) (keep f (numbers count (suc start))))
-         (later ∷ keep g (numbers count (suc later))))
+        EqualLists κ t (cond x (start ∷ keep f (numbers count (suc start))) (keep f (numbers count (suc start))))
+        (later ∷ keep g (numbers count (suc later))))
         (sym p)
         (paired
         (subst (λ (x : ℕ). Equal κ t start x) (sym e) (equal start (omega arith) (omega arith) (subst (λ (x : Bool). T x) (sym p) tt)))
@@ -76,13 +76,13 @@ paired-ranges κ t f g gap (suc count) start later e same equal =
     go false p c q rest =
         subst
         (λ (x : Bool).
-         EqualLists κ t (cond (f start) (start ∷ keep f (numbers count (suc start))) (keep f (numbers count (suc start))))
-         (cond x (later ∷ keep g (numbers count (suc later))) (keep g (numbers count (suc later)))))
+        EqualLists κ t (cond (f start) (start ∷ keep f (numbers count (suc start))) (keep f (numbers count (suc start))))
+        (cond x (later ∷ keep g (numbers count (suc later))) (keep g (numbers count (suc later)))))
         (sym p ∙ q)
         (subst
         (λ (x : Bool).
-         EqualLists κ t (cond x (start ∷ keep f (numbers count (suc start))) (keep f (numbers count (suc start))))
-         (keep g (numbers count (suc later))))
+        EqualLists κ t (cond x (start ∷ keep f (numbers count (suc start))) (keep f (numbers count (suc start))))
+        (keep g (numbers count (suc later))))
         (sym p) rest)
 
 -- a range of three parts: before, a part, and the part behind it

@@ -82,7 +82,7 @@ module _ (κ : ℕ → Class) (asked : Key) (u : ℕ) (hu : u < length (patternN
       let a = ap length two-parts ∙ length-append firsts seconds in
       let b = firsts-length in
       let c = length-map (numbers (gapOf κ asked u) (placeOf κ asked (suc u))) (writtenNode κ asked (placeOf κ asked (suc u)) (gapOf κ asked u))
-          ∙ numbers-length (gapOf κ asked u) (placeOf κ asked (suc u)) in
+      ∙ numbers-length (gapOf κ asked u) (placeOf κ asked (suc u)) in
       let d = all-nodes in
       omega arith
 

@@ -70,8 +70,8 @@ module _ (κ : ℕ → Class) (asked : Key) (u : ℕ) (hu : u < length (patternN
   parent-number s x z y pos l h =
       ap
       (λ (b : Bool).
-       cond b noNumber
-       (cond (ltb (placeOf κ asked z) (placeOf κ asked (suc u))) (placeOf κ asked z) (placeOf κ asked z + shift u (gapOf κ asked u) s x)))
+      cond b noNumber
+      (cond (ltb (placeOf κ asked z) (placeOf κ asked (suc u))) (placeOf κ asked z) (placeOf κ asked z + shift u (gapOf κ asked u) s x)))
       (false-of (eqb y 0) (λ t. let e = eqb→eq y 0 t in omega arith))
       ∙ go (decLt u z)
     where
@@ -123,10 +123,10 @@ module _ (κ : ℕ → Class) (asked : Key) (u : ℕ) (hu : u < length (patternN
       let cut = placeOf κ asked (suc u) in
       let d = getD (dressedNodes κ asked) y (noDressed κ asked) in
       let same : getD (writtenNodes κ asked u) (numberIn κ asked u s x f) noNode .label ≡ d .label =
-          ap (λ (n : Node). n .label) (written-at κ asked u hu s x f st) in
+      ap (λ (n : Node). n .label) (written-at κ asked u hu s x f st) in
       let leaf : isElement (κ (d .label)) ≡ false =
-          false-of (isElement (κ (d .label)))
-          (λ t. lib.Dec.T-not (isElement (κ (d .label))) (subst (λ (l : ℕ). T (not (isElement (κ l)))) same n) t) in
+      false-of (isElement (κ (d .label)))
+      (λ t. lib.Dec.T-not (isElement (κ (d .label))) (subst (λ (l : ℕ). T (not (isElement (κ l)))) same n) t) in
       ap (λ (n : Node). n .value) (written-at κ asked u hu s x f st)
       ∙ ap (λ (b : Bool). cond b 0 (cond (d .mark) y (y + sh))) leaf
       ∙ ap (λ (b : Bool). cond b y (y + sh)) (ap (λ (d : Dressed). d .mark) (dressed-at κ asked x f st) ∙ mark f)
