@@ -1,0 +1,5 @@
+-- ARGUMENT 2: trees as tables, reach, and the laws of value equality.
+pub mod Below
+pub mod Children
+pub mod Laws
+pub mod Climb
