@@ -3,3 +3,6 @@ pub mod Bools
 pub mod Words
 pub mod Normal
 pub mod Simple
+pub mod Valid
+pub mod Inclusion
+pub mod Good
