@@ -1,0 +1,4 @@
+pub mod Beginnings
+pub mod SameParts
+pub mod Subnodes
+pub mod Interactions
