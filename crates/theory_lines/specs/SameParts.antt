@@ -38,10 +38,14 @@ prefixEpsilonTest p k = sameContext p k && (sameTarget p k && (holdsEmpty p && (
 unfoldable pub superkeyTest : Key → Key → Bool
 superkeyTest p k = sameContext p k && (sameTarget p k && allAmong p k)
 
-empty-is : (p : List ℕ) → T (isEmpty p) → p ≡ []
+pub empty-is : (p : List ℕ) → T (isEmpty p) → p ≡ []
 unfolding isEmpty
 empty-is [] h = refl
 empty-is (s ∷ p) h = absurd h
+
+pub is-empty : (p : List ℕ) → p ≡ [] → T (isEmpty p)
+unfolding isEmpty
+is-empty p e = subst (λ (q : List ℕ). T (isEmpty q)) (sym e) tt
 
 pub empty-among : (ps : List (List ℕ)) → T (any isEmpty ps) → List·Memᴰ [] ps
 empty-among ps h = let s = any-some isEmpty ps h in Memᴰ·cast (sym (empty-is (s .0) (s .2))) (s .1)

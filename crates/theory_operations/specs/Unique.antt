@@ -8,7 +8,7 @@ use mathlib.Core.Option.{Option, none, some}
 use native.Mathlib.Omega.{arith}
 use native.Mathlib.Decide.{decLt}
 use lib.ListN.{length, take, drop, getElem?}
-use Rattle.meaning.specs.Lists.{Each, end, also}
+use Rattle.theory_paths.specs.Bools.{Each-nth, Each-below}
 use Rattle.meaning.specs.Keys.{Key, Keeps, Breaks, Implied}
 use Rattle.meaning.specs.Rules.{Line, FollowsAt, FollowsBelow, EndsWith}
 use Rattle.meaning.specs.Refusals.{Refusal, Walked, firstRefusal}
@@ -97,18 +97,6 @@ pub checks-proof-unique : (profile question proof : List ℕ) (a b : Answer) →
 unfolding ChecksProof
 checks-proof-unique profile question proof a b = unless-unique _ _ _ (judged-unique _ _ _ _) a b
 
--- What holds of each of the first n, or of each, holds of the one that stands at a number below
-pub each-at : {A : Type 0} {Q : A → Type 0} {xs : List A} {x : A} (n : ℕ) → Each Q xs → getElem? xs n ≡ some x → Q x
-each-at n end e = let z : _≡_ {A = ℕ} 0 1 = cc in absurd (omega arith)
-each-at {Q} zero (also q qs) e = subst Q (cc) q
-each-at (suc n) (also q qs) e = each-at n qs e
-
-pub each-below : {A : Type 0} {Q : A → Type 0} (xs : List A) {x : A} (n m : ℕ) → n < m → Each Q (take m xs) → getElem? xs n ≡ some x → Q x
-each-below [] n m h q e = let z : _≡_ {A = ℕ} 0 1 = cc in absurd (omega arith)
-each-below (y ∷ ys) n zero h q e = absurd (omega arith)
-each-below {Q} (y ∷ ys) zero (suc m) h (also q qs) e = subst Q (cc) q
-each-below (y ∷ ys) (suc n) (suc m) h (also q qs) e = each-below ys n m (omega arith) qs e
-
 module _ (profile question tree : List ℕ) where
   pub counterexample-unique : (a b : Answer) → CounterexampleJudged profile question tree a → CounterexampleJudged profile question tree b → a ≡ b
   unfolding KeepsIn BreaksIn Keeps
@@ -118,15 +106,15 @@ module _ (profile question tree : List ℕ) where
       at-key x = refusedBy (record { number = 12; input = 1; place = x }) []
 
       go : Dec (m < n) → Dec (n < m) → m ≡ n
-      go (yes h) d = absurd (each-below _ m n h l′ s w)
-      go (no h) (yes h′) = absurd (each-below _ n m h′ l s′ w′)
+      go (yes h) d = absurd (Each-below _ m n h l′ s w)
+      go (no h) (yes h′) = absurd (Each-below _ n m h′ l s′ w′)
       go (no h) (no h′) = omega arith
-  counterexample-unique a b (breaksKey m k s l w p) (keepsQuestion l′ e q) = absurd (each-at m l′ s w)
-  counterexample-unique a b (breaksKey m k s l w p) (refutes l′ e q) = absurd (each-at m l′ s w)
-  counterexample-unique a b (keepsQuestion l e p) (breaksKey n k′ s′ l′ w′ q) = absurd (each-at n l s′ w′)
+  counterexample-unique a b (breaksKey m k s l w p) (keepsQuestion l′ e q) = absurd (Each-nth m l′ s w)
+  counterexample-unique a b (breaksKey m k s l w p) (refutes l′ e q) = absurd (Each-nth m l′ s w)
+  counterexample-unique a b (keepsQuestion l e p) (breaksKey n k′ s′ l′ w′ q) = absurd (Each-nth n l s′ w′)
   counterexample-unique a b (keepsQuestion l e p) (keepsQuestion l′ e′ q) = p ∙ sym q
   counterexample-unique a b (keepsQuestion l e p) (refutes l′ e′ q) = absurd (e e′)
-  counterexample-unique a b (refutes l e p) (breaksKey n k′ s′ l′ w′ q) = absurd (each-at n l s′ w′)
+  counterexample-unique a b (refutes l e p) (breaksKey n k′ s′ l′ w′ q) = absurd (Each-nth n l s′ w′)
   counterexample-unique a b (refutes l e p) (keepsQuestion l′ e′ q) = absurd (e′ e)
   counterexample-unique a b (refutes l e p) (refutes l′ e′ q) = p ∙ sym q
 
