@@ -4,7 +4,8 @@ use mathlib.Core.Path.{_≡_, refl, sym, _∙_, ap, ap₂}
 use mathlib.Core.List.{List, [], _∷_, _++_}
 use native.Mathlib.Omega.{arith}
 use lib.ListN.{length}
-use Rattle.meaning.specs.Trees.{Table, Child, Down, here, step}
+use Rattle.meaning.specs.Paths.{Class}
+use Rattle.meaning.specs.Trees.{Table, IsTree, Child, Down, here, step}
 
 -- The node on the way from v down to x, after r and before s
 pub record Way (t : Table) (v : ℕ) (r s : List ℕ) (x : ℕ) : Type 0 where
@@ -62,6 +63,15 @@ module _ {t : Table} where
 -- "A node's parent has a smaller number"
 unfoldable pub ParentsSmaller : Table → Type 0
 ParentsSmaller t = (n : ℕ) → 0 < n → n < t .size → t .parent n < n
+
+pub tree-smaller : {κ : ℕ → Class} {t : Table} → IsTree κ t → ParentsSmaller t
+unfolding ParentsSmaller
+tree-smaller tree n positive inside = tree .rest n positive inside .above
+
+-- a run from a node of the table ends at one
+pub down-inside : {t : Table} {v w : ℕ} {run : List ℕ} → Down t v run w → v < t .size → w < t .size
+down-inside (here p) h = omega arith
+down-inside (step x c l d) h = down-inside d (c .inside)
 
 module _ {t : Table} (small : ParentsSmaller t) where
   pub child-greater : {v x : ℕ} → Child t v x → v < x

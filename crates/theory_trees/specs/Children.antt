@@ -10,19 +10,7 @@ use lib.Dec.{T, eqb, eqb→eq, eqb-refl}
 use Rattle.meaning.specs.Lists.{keep, numbers}
 use Rattle.meaning.specs.Paths.{Class, isAttribute}
 use Rattle.meaning.specs.Trees.{Table, Child, attributes, others}
-
--- a test of two, taken apart and put together
-pub and-first : (a b : Bool) → T (a && b) → T a
-and-first true b h = tt
-and-first false b h = h
-
-pub and-second : (a b : Bool) → T (a && b) → T b
-and-second true b h = h
-and-second false b h = absurd h
-
-pub and-both : (a b : Bool) → T a → T b → T (a && b)
-and-both true b h k = k
-and-both false b h k = h
+use Rattle.theory_paths.specs.Bools.{and-left, and-right, both}
 
 -- `keep` holds those members that pass the test
 module _ {A : Type 0} (f : A → Bool) where
@@ -76,16 +64,16 @@ module _ (t : Table) (v : ℕ) (f : ℕ → Bool) where
         record {
           notRoot = omega arith;
           inside = omega arith;
-          below = eqb→eq (t .parent x) v (and-first (eqb (t .parent x) v) (f x) (k .1));
+          below = eqb→eq (t .parent x) v (and-left (eqb (t .parent x) v) (f x) (k .1));
         },
-        and-second (eqb (t .parent x) v) (f x) (k .1),
+        and-right (eqb (t .parent x) v) (f x) (k .1),
       )
 
   child-tested : {x : ℕ} → Child t v x → T (f x) → List·Memᴰ x (keep (λ (x : ℕ). eqb (t .parent x) v && f x) (numbers (t .size - 1) 1))
   child-tested {x} c h =
       mem-keep (λ (x : ℕ). eqb (t .parent x) v && f x) (numbers (t .size - 1) 1)
       (mem-numbers x (t .size - 1) 1 (c .notRoot) (let k = c .inside in omega arith))
-      (and-both (eqb (t .parent x) v) (f x) (subst (λ (p : ℕ). T (eqb p v)) (sym (c .below)) (eqb-refl v)) h)
+      (both (eqb (t .parent x) v) (f x) (subst (λ (p : ℕ). T (eqb p v)) (sym (c .below)) (eqb-refl v)) h)
 
 -- Membership in the two lists, both ways
 module _ (κ : ℕ → Class) (t : Table) {v x : ℕ} where

@@ -10,8 +10,8 @@ use borrow.Author.Tests.{eqb-true, eq-eqb, ne-eqb, lt-ltb}
 use lib.ListN.{length}
 use Rattle.meaning.specs.Paths.{member}
 use Rattle.meaning.specs.Trees.{Table, Child, Down, here, step, Reached}
+use Rattle.theory_paths.specs.Bools.{and-left, and-right}
 use Rattle.theory_trees.specs.Below.{ParentsSmaller, down-greater, down-from}
-use Rattle.theory_trees.specs.Children.{and-first, and-second}
 
 -- The last label of a run, and the run before it
 pub record Last (t : Table) (v : ℕ) (run : List ℕ) (w : ℕ) : Type 0 where
@@ -75,7 +75,7 @@ module _ (t : Table) (v : ℕ) (path : List ℕ) where
   reaches-from-sound : (left : ℕ) (run : List ℕ) (w x : ℕ) → T (reachesFrom t v path left run w) → Down t w run x → Reached t v path x
   unfolding reachesFrom
   reaches-from-sound zero run w x h d =
-      met (eqb→eq w v (and-first (eqb w v) (member path run) h)) d (and-second (eqb w v) (member path run) h)
+      met (eqb→eq w v (and-left (eqb w v) (member path run) h)) d (and-right (eqb w v) (member path run) h)
   reaches-from-sound (suc left) run w x h d =
       go (eqb w v) refl (ltb 0 w && ltb w (t .size)) refl (λ a b. reaches-from-sound left (t .label w ∷ run) (t .parent w) x a b) h
     where
@@ -89,8 +89,8 @@ module _ (t : Table) (v : ℕ) (path : List ℕ) where
           ih h
           (step w
           (record {
-            notRoot = ltb→lt 0 w (and-first (ltb 0 w) (ltb w (t .size)) k);
-            inside = ltb→lt w (t .size) (and-second (ltb 0 w) (ltb w (t .size)) k);
+            notRoot = ltb→lt 0 w (and-left (ltb 0 w) (ltb w (t .size)) k);
+            inside = ltb→lt w (t .size) (and-right (ltb 0 w) (ltb w (t .size)) k);
             below = refl;
           })
           refl
@@ -123,9 +123,9 @@ reaches-complete t small v path w r =
     reaches-from-complete t v path small w (r .run) [] w (r .down) (let g = down-greater small (r .down) in omega arith)
     (subst (λ (s : List ℕ). T (member path s)) (sym (append-nil (r .run))) (r .word))
 
+pub T-dec : (b : Bool) → Dec (T b)
+T-dec true = yes tt
+T-dec false = no (λ h. h)
+
 pub reached? : (t : Table) → ParentsSmaller t → (v : ℕ) (path : List ℕ) (w : ℕ) → Dec (Reached t v path w)
 reached? t small v path w = map-dec (reaches-sound t v path w) (reaches-complete t small v path w) (T-dec (reaches t v path w))
-  where
-    T-dec : (b : Bool) → Dec (T b)
-    T-dec true = yes tt
-    T-dec false = no (λ h. h)

@@ -3,3 +3,7 @@ pub mod Below
 pub mod Children
 pub mod Laws
 pub mod Climb
+pub mod Reach
+pub mod Sameness
+pub mod Breaking
+pub mod Files

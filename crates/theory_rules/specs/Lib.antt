@@ -1,0 +1,5 @@
+-- ARGUMENT 3: the rules are sound, tree by tree.
+pub mod Rules
+pub mod Accepted
+pub mod Cuts
+pub mod Decided
