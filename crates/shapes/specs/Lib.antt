@@ -4,3 +4,5 @@ pub mod Fields
 pub mod Names
 pub mod Parts
 pub mod Bodies
+pub mod Classes
+pub mod Tables

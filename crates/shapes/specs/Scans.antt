@@ -11,23 +11,26 @@ use lib.Seq.{drop-cons}
 use borrow.Author.Tests.{lt-ltb, le-ltb, le-leb, lt-leb, eq-eqb, ne-eqb, not-true, not-false}
 use Rattle.meaning.specs.Lists.{every, any, same, lower}
 
--- what is left at a byte is that byte and what is left behind it
-pub drop-step : (l : List ℕ) (i : ℕ) → i < length l → drop i l ≡ getD l i 0 ∷ drop (i + 1) l
-drop-step l i h = rw add-one (drop-cons l i 0 h)
+-- what is left at a member is that member and what is left behind it
+pub drop-step : {A : Type 0} (d : A) (l : List A) (i : ℕ) → i < length l → drop i l ≡ getD l i d ∷ drop (i + 1) l
+drop-step d l i h = rw add-one (drop-cons l i d h)
 
--- A scan for f stands at byte i of l; w is what is asked of the whole.
-pub record Scan (f : ℕ → Bool) (l : List ℕ) (i : ℕ) (w : Bool) : Type 0 where
+-- A scan for f stands at member i of l (d: a default, 0 for bytes and the empty path for paths); w is what is asked of the whole.
+pub record Scan {A : Type 0} (d : A) (f : A → Bool) (l : List A) (i : ℕ) (w : Bool) : Type 0 where
   pub within : i ≤ length l
   pub rest : every f (drop i l) ≡ w
 
-module _ {f : ℕ → Bool} {l : List ℕ} {i : ℕ} {w : Bool} (s : Scan f l i w) where
-  pub scan-next : i < length l → {r : Bool} → r ≡ f (getD l i 0) → not r ≡ false → Scan f l (i + 1) w
-  unfolding every
-  scan-next h e t = record { within = omega arith; rest = rw (drop-step l i h, sym e ∙ not-false _ t) at (s .rest) }
+pub scan-start : {A : Type 0} (d : A) (f : A → Bool) (l : List A) → Scan d f l 0 (every f l)
+scan-start d f l = record { within = omega arith; rest = refl }
 
-  pub scan-stop : i < length l → {r : Bool} → r ≡ f (getD l i 0) → not r ≡ true → false ≡ w
+module _ {A : Type 0} {d : A} {f : A → Bool} {l : List A} {i : ℕ} {w : Bool} (s : Scan d f l i w) where
+  pub scan-next : i < length l → {r : Bool} → r ≡ f (getD l i d) → not r ≡ false → Scan d f l (i + 1) w
   unfolding every
-  scan-stop h e t = rw (drop-step l i h, sym e ∙ not-true _ t) at (s .rest)
+  scan-next h e t = record { within = omega arith; rest = rw (drop-step d l i h, sym e ∙ not-false _ t) at (s .rest) }
+
+  pub scan-stop : i < length l → {r : Bool} → r ≡ f (getD l i d) → not r ≡ true → false ≡ w
+  unfolding every
+  scan-stop h e t = rw (drop-step d l i h, sym e ∙ not-true _ t) at (s .rest)
 
   pub scan-end : length l ≤ i → true ≡ w
   unfolding every
@@ -49,12 +52,12 @@ module _ {a b : List ℕ} {i : ℕ} {w : Bool} (s : Pair a b i w) where
       record {
         within = omega arith;
         lengths = s .lengths;
-        rest = rw (drop-step a i h, drop-step b i (omega arith), eq-eqb (getD a i 0) (getD b i 0) e) at (s .rest);
+        rest = rw (drop-step 0 a i h, drop-step 0 b i (omega arith), eq-eqb (getD a i 0) (getD b i 0) e) at (s .rest);
       }
 
   pub pair-stop : i < length a → (getD a i 0 ≡ getD b i 0 → ⊥) → false ≡ w
   unfolding same
-  pair-stop h e = rw (drop-step a i h, drop-step b i (omega arith), ne-eqb (getD a i 0) (getD b i 0) e) at (s .rest)
+  pair-stop h e = rw (drop-step 0 a i h, drop-step 0 b i (omega arith), ne-eqb (getD a i 0) (getD b i 0) e) at (s .rest)
 
   pub pair-end : length a ≤ i → true ≡ w
   unfolding same

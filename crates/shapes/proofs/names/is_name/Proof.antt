@@ -16,7 +16,7 @@ use Rattle.shapes.proofs.names.in_name.Reads as in-name-reads
 use Rattle.shapes.proofs.names.is_letter.Reads as is-letter-reads
 
 abbrev Inv-loop : tie.InvT-loop
-Inv-loop name i₀ i = (1 ≤ i) × Scan inName name i (isName name)
+Inv-loop name i₀ i = (1 ≤ i) × Scan 0 inName name i (isName name)
 
 abbrev μ-loop : tie.MeasureT-loop
 μ-loop name i₀ i = length name - i
