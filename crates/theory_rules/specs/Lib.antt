@@ -3,3 +3,4 @@ pub mod Rules
 pub mod Accepted
 pub mod Cuts
 pub mod Decided
+pub mod Lines
