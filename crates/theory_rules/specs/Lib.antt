@@ -4,3 +4,4 @@ pub mod Accepted
 pub mod Cuts
 pub mod Decided
 pub mod Lines
+pub mod Judged
