@@ -1,65 +1,20 @@
 -- Whether a proof line follows is decided, for well-formed lines.
-use Prim.Native.Nat.{ℕ, zero, suc}
-use mathlib.Core.Path.{_≡_, refl, sym, _∙_, ap, subst}
+use Prim.Native.Nat.{ℕ}
+use mathlib.Core.Path.{_≡_, refl, sym, ap, subst}
 use mathlib.Core.Logic.{_⊎_, inl, inr, Dec·and}
-use mathlib.Core.List.{List, [], _∷_}
+use mathlib.Core.List.{List}
 use mathlib.Core.Option.{Option, none, some, Option·some-injective, Option·none-ne-some}
 use native.Mathlib.Decide.{ℕ-discrete, map-dec}
-use lib.Dec.{T}
-use lib.ListN.{getElem?, length, take}
+use lib.ListN.{getElem?}
 use Rattle.meaning.specs.Limits.{noNumber, inProof}
 use Rattle.meaning.specs.Lists.{Each}
 use Rattle.meaning.specs.Paths.{Label, member, Included}
 use Rattle.meaning.specs.Keys.{Key}
-use Rattle.meaning.specs.Rules.{
-  Line,
-  Epsilon,
-  PrefixEpsilon,
-  Superkey,
-  Subnodes,
-  ContextPath,
-  TargetPath,
-  ContextTarget,
-  SubnodesEpsilon,
-  Interaction,
-  Follows,
-  rule0,
-  rule1,
-  rule2,
-  rule3,
-  rule4,
-  rule5,
-  rule6,
-  rule7,
-  rule8,
-  rule9,
-}
-use Rattle.theory_paths.specs.Good.{
-  GoodLabels,
-  GoodKey,
-  included-good,
-  context-symbols,
-  target-symbols,
-  target-normal,
-  valid-context,
-  valid-target,
-}
+use Rattle.meaning.specs.Rules.{Line, Epsilon, PrefixEpsilon, Superkey, Subnodes, ContextPath, TargetPath, ContextTarget, SubnodesEpsilon, Interaction, Follows, rule0, rule1, rule2, rule3, rule4, rule5, rule6, rule7, rule8, rule9}
+use Rattle.theory_paths.specs.Good.{GoodLabels, GoodKey, included-good, context-symbols, target-symbols, target-normal, valid-context, valid-target}
 use Rattle.theory_trees.specs.Climb.{T-dec}
 use Rattle.theory_rules.specs.Accepted.{each-number}
-use Rattle.theory_rules.specs.Decided.{
-  path?,
-  set?,
-  sum?,
-  epsilon?,
-  prefix-epsilon?,
-  superkey?,
-  subnodes?,
-  context-path?,
-  target-path?,
-  context-target?,
-  subnodes-epsilon?,
-  interaction?,
-}
+use Rattle.theory_rules.specs.Decided.{path?, set?, sum?, epsilon?, prefix-epsilon?, superkey?, subnodes?, context-path?, target-path?, context-target?, subnodes-epsilon?, interaction?}
 
 pub key? : (k l : Key) → Dec (k ≡ l)
 key? k l =
