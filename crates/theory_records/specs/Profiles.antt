@@ -14,10 +14,12 @@ use Rattle.meaning.specs.Paths.{Label}
 use Rattle.meaning.specs.Keys.{Key}
 use Rattle.meaning.specs.Records.{recordLength, recordKind, recordBody, readLabel, labelBytes, keyIn, keyBytes}
 use Rattle.meaning.specs.Refusals.{Refusal, firstRefusal, firstOf, Walked, walk, goodLabel, Profile, noProfile, profileTests, profileNext, profileWalked, profileIn, profileRefusal, oversize}
+use Rattle.theory_paths.specs.Bools.{of-true}
+use Rattle.theory_paths.specs.Good.{GoodLabels, good-labels-none, good-labels-more, GoodKey}
 use Rattle.theory_records.specs.Walks.{Stopped, walk-keeps}
 use Rattle.theory_records.specs.Bytes.{Bytes, bytes-drop}
 use Rattle.theory_records.specs.Encodings.{label-written, key-record-written}
-use Rattle.theory_records.specs.Judged.{KeyAccepted, LabelAccepted, KeyRecordAccepted, profile-accepted}
+use Rattle.theory_records.specs.Judged.{LabelAccepted, KeyRecordAccepted, profile-accepted}
 
 -- the bytes of a profile: "A profile is labels, numbers ascending, then keys."
 unfoldable pub profileBytes : Profile → List ℕ
@@ -29,10 +31,22 @@ pub data LabelsRead : List Label → Type 0 where
   oneMore : {labels : List Label} (before : List Label) (l : Label) → LabelsRead before → goodLabel before l ≡ true
       → labels ≡ before ++ (l ∷ []) → LabelsRead labels
 
+-- .. and so between 2 and 200
+pub labels-good : {labels : List Label} → LabelsRead labels → GoodLabels labels
+labels-good (noLabel e) = subst GoodLabels (sym e) good-labels-none
+labels-good (oneMore before l more good e) = subst GoodLabels (sym e) (good-labels-more before l (labels-good more) (of-true _ good))
+
 pub flat-more : {A : Type 0} (f : A → List ℕ) (xs : List A) (x : A) → flatten (map f (xs ++ (x ∷ []))) ≡ flatten (map f xs) ++ f x
 unfolding flatten
 flat-more f [] x = append-nil (f x)
 flat-more f (y ∷ xs) x = ap (λ (l : List ℕ). f y ++ l) (flat-more f xs x) ∙ sym (append-assoc (f y) (flatten (map f xs)) (f x))
+
+-- one record more is written, and what is left is less by it
+pub one-more : {A : Type 0} (f : A → List ℕ) (xs : List A) (x : A) (r l bytes : List ℕ) → f x ++ r ≡ l → flatten (map f xs) ++ l ≡ bytes
+    → flatten (map f (xs ++ (x ∷ []))) ++ r ≡ bytes
+one-more f xs x r l bytes e w =
+    ap (λ (k : List ℕ). k ++ r) (flat-more f xs x)
+    ∙ (append-assoc (flatten (map f xs)) (f x) r ∙ (ap (λ (k : List ℕ). flatten (map f xs) ++ k) e ∙ w))
 
 pub each-more : {A : Type 0} {Q : A → Type 0} {xs : List A} {x : A} → Each Q xs → Q x → Each Q (xs ++ (x ∷ []))
 each-more end q = also q end
@@ -54,7 +68,7 @@ next-key p l k = rw k
 -- What holds of the labels and keys read so far
 pub record ProfileGood (n : ℕ) (p : Profile) : Type 0 where
   pub labels : LabelsRead (p .labels)
-  pub keys : Each (KeyAccepted (p .labels) inProfile) (p .keys)
+  pub keys : Each (GoodKey (p .labels) inProfile) (p .keys)
   pub few : length (p .keys) ≤ 64
   pub counted : n ≡ length (p .labels) + length (p .keys)
 
@@ -66,7 +80,7 @@ good-kept n p l g h e =
     rw (next-label p l (a .kind))
     (record {
       labels = oneMore (p .labels) (readLabel (recordBody l)) (g .labels) (a .good) refl;
-      keys = subst (λ (ks : List Key). Each (KeyAccepted (p .labels ++ (readLabel (recordBody l) ∷ [])) inProfile) ks) (sym (a .beforeKeys)) end;
+      keys = subst (λ (ks : List Key). Each (GoodKey (p .labels ++ (readLabel (recordBody l) ∷ [])) inProfile) ks) (sym (a .beforeKeys)) end;
       few = g .few;
       counted = omega (arith, g .counted, length-more (p .labels) (readLabel (recordBody l)));
     }))
