@@ -12,3 +12,4 @@ pub mod Questions
 pub mod Bodies
 pub mod Written
 pub mod WrittenInputs
+pub mod WrittenProfiles
