@@ -54,11 +54,11 @@ bodies-kept bytes n p l g h e =
     record {
       here = ap (λ (x : List ℕ). drop (recordLength x) x) (g .here) ∙ sym (records-next n bytes);
       some =
-        λ i k.
-        ⊎-elim
-        (λ (q : i ≡ n). subst (λ (x : List ℕ). 0 < length (recordBody x)) (g .here ∙ ap (λ (j : ℕ). recordsFrom j bytes) (sym q)) (body-some p l e))
-        (λ (q : i < n). g .some i q)
-        (eq-or-lt-of-le (le-of-suc-le-suc k));
+          λ i k.
+          ⊎-elim
+          (λ (q : i ≡ n). subst (λ (x : List ℕ). 0 < length (recordBody x)) (g .here ∙ ap (λ (j : ℕ). recordsFrom j bytes) (sym q)) (body-some p l e))
+          (λ (q : i < n). g .some i q)
+          (eq-or-lt-of-le (le-of-suc-le-suc k));
     }
 
 -- Of an accepted profile: each record has a body, and behind the last there is nothing
@@ -70,17 +70,17 @@ pub bodies : (bytes : List ℕ) → profileRefusal bytes .number ≡ 0 → Bodie
 unfolding profileWalked bodyAt orNothing recordBody
 bodies bytes e =
     let w =
-        walk-keeps profileTests profileNext (λ n p rest. BodiesAt bytes n rest) profile-long (bodies-kept bytes) 0 noProfile bytes
-        (record { here = unfold recordsFrom in refl; some = λ i h. absurd (omega arith) }) in
+    walk-keeps profileTests profileNext (λ n p rest. BodiesAt bytes n rest) profile-long (bodies-kept bytes) 0 noProfile bytes
+    (record { here = unfold recordsFrom in refl; some = λ i h. absurd (omega arith) }) in
     let last : recordsFrom (profileWalked bytes .at) bytes ≡ [] = sym (w .held .here) ∙ w .sound (profile-accepts bytes e .walked) in
     record {
       some = λ n h. rw e (w .held .some n h);
       none =
-        λ n h.
-        let at : ℕ = profileWalked bytes .at in
-        let split : n ≡ at + (n - at) = omega arith in
-        let beyond : recordsFrom n bytes ≡ [] =
-            ap (λ (k : ℕ). recordsFrom k bytes) split
-            ∙ (records-add at (n - at) bytes ∙ (ap (λ (x : List ℕ). recordsFrom (n - at) x) last ∙ records-none (n - at))) in
-        rw (e, beyond) (unfold recordLength word in refl);
+          λ n h.
+          let at : ℕ = profileWalked bytes .at in
+          let split : n ≡ at + (n - at) = omega arith in
+          let beyond : recordsFrom n bytes ≡ [] =
+          ap (λ (k : ℕ). recordsFrom k bytes) split
+          ∙ (records-add at (n - at) bytes ∙ (ap (λ (x : List ℕ). recordsFrom (n - at) x) last ∙ records-none (n - at))) in
+          rw (e, beyond) (unfold recordLength word in refl);
     }

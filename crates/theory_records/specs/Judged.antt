@@ -36,10 +36,15 @@ pub room-left : (kind limit count : ℕ) (l : List ℕ) → count < limit → to
 unfolding tooMany
 room-left kind limit count l h = rw (lt-leb limit count h) (and-false (leb 4 (length l) && eqb (recordKind l) kind))
 
-no-keys : {A : Type 0} (l : List A) → length l ≡ 0 → isEmpty l ≡ true
+pub none-empty : {A : Type 0} (l : List A) → length l ≡ 0 → isEmpty l ≡ true
 unfolding isEmpty
-no-keys [] e = refl
-no-keys (x ∷ l) e = absurd (omega arith)
+none-empty [] e = refl
+none-empty (x ∷ l) e = absurd (omega arith)
+
+pub some-empty : {A : Type 0} (l : List A) → 0 < length l → isEmpty l ≡ false
+unfolding isEmpty
+some-empty [] h = absurd (omega arith)
+some-empty (x ∷ l) h = refl
 
 pub empty-says : {A : Type 0} (l : List A) → isEmpty l ≡ true → l ≡ []
 unfolding isEmpty
@@ -161,7 +166,7 @@ line-accepted labels lines l e =
 pub profile-label-passes : (p : Profile) (l : List ℕ) → length (p .keys) ≡ 0 → whole l ≡ true → recordKind l ≡ 1
     → goodLabel (p .labels) (readLabel (recordBody l)) ≡ true → firstOf (profileTests p l) ≡ 0
 unfolding profileTests firstOf inProfileOrder
-profile-label-passes p l none w k good = rw (room-left 2 64 (length (p .keys)) l (omega arith), w, k, good, no-keys (p .keys) none)
+profile-label-passes p l none w k good = rw (room-left 2 64 (length (p .keys)) l (omega arith), w, k, good, none-empty (p .keys) none)
 
 pub profile-key-passes : (p : Profile) (l : List ℕ) → length (p .keys) < 64 → whole l ≡ true → recordKind l ≡ 2
     → firstOf (keyTests (p .labels) inProfile (keyIn (recordBody l))) ≡ 0 → firstOf (profileTests p l) ≡ 0

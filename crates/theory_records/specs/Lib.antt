@@ -11,3 +11,5 @@ pub mod TreeFiles
 pub mod Questions
 pub mod Bodies
 pub mod Written
+pub mod WrittenInputs
+pub mod WrittenProfiles

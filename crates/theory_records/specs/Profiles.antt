@@ -14,6 +14,7 @@ use Rattle.meaning.specs.Paths.{Label}
 use Rattle.meaning.specs.Keys.{Key}
 use Rattle.meaning.specs.Records.{recordLength, recordKind, recordBody, readLabel, labelBytes, keyIn, keyBytes}
 use Rattle.meaning.specs.Refusals.{Refusal, firstRefusal, firstOf, Walked, walk, goodLabel, Profile, noProfile, profileTests, profileNext, profileWalked, profileIn, profileRefusal, oversize}
+use Rattle.meaning.specs.Operations.{labelsIn, keysIn}
 use Rattle.theory_paths.specs.Bools.{of-true}
 use Rattle.theory_paths.specs.Good.{GoodLabels, good-labels-none, good-labels-more, GoodKey}
 use Rattle.theory_records.specs.Walks.{Stopped, walk-keeps}
@@ -112,7 +113,7 @@ pub record ProfileWritten (bytes : List ℕ) (n : ℕ) (p : Profile) (rest : Lis
   pub are : profileBytes p ++ rest ≡ bytes
 
 one-label : (A x K r l bytes : List ℕ) → K ≡ [] → x ++ r ≡ l → (A ++ K) ++ l ≡ bytes → ((A ++ x) ++ K) ++ r ≡ bytes
-one-label A x K r l bytes k e w = sym (sym w ∙ (rw (k, append-nil, append-nil, ← e) (sym (append-assoc A x r))))
+one-label A x K r l bytes k e w = sym (sym w ∙ (rw (k, append-nil A, append-nil (A ++ x), ← e) (sym (append-assoc A x r))))
 
 one-key : (A x K r l bytes : List ℕ) → x ++ r ≡ l → (A ++ K) ++ l ≡ bytes → (A ++ (K ++ x)) ++ r ≡ bytes
 one-key A x K r l bytes e w = sym (sym w ∙ (rw (← e) (simp append-assoc)))
@@ -197,3 +198,16 @@ profile-unique bytes other small small′ e e′ same =
 pub profile-read-back : (bytes : List ℕ) → Bytes bytes → profileRefusal bytes .number ≡ 0
     → profileIn (profileBytes (profileIn bytes)) ≡ profileIn bytes
 profile-read-back bytes small e = ap profileIn (profile-written bytes small (profile-accepts bytes e .walked))
+
+-- the same by the names that the operations use
+pub accepted-labels : (bytes : List ℕ) → profileRefusal bytes .number ≡ 0 → GoodLabels (labelsIn bytes)
+unfolding labelsIn
+accepted-labels bytes e = labels-good (profile-accepts bytes e .good .labels)
+
+pub accepted-keys : (bytes : List ℕ) → profileRefusal bytes .number ≡ 0 → Each (GoodKey (labelsIn bytes) inProfile) (keysIn bytes)
+unfolding labelsIn keysIn
+accepted-keys bytes e = profile-accepts bytes e .good .keys
+
+pub accepted-few : (bytes : List ℕ) → profileRefusal bytes .number ≡ 0 → length (keysIn bytes) ≤ 64
+unfolding keysIn
+accepted-few bytes e = profile-accepts bytes e .good .few

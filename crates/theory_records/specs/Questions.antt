@@ -44,12 +44,12 @@ question-kept labels bytes n read l g h e =
     (λ (u : Unread bytes read l).
     record {
       either =
-        inr
-        (record {
-          one = rw (u .none, u .all);
-          accepted = subst (λ (x : List ℕ). QuestionAccepted labels [] x) (u .all) (subst (λ (r : List Key). QuestionAccepted labels r l) (u .none) a);
-          left = ap (λ (x : List ℕ). drop (recordLength x) x) (u .all);
-        });
+          inr
+          (record {
+            one = rw (u .none, u .all);
+            accepted = subst (λ (x : List ℕ). QuestionAccepted labels [] x) (u .all) (subst (λ (r : List Key). QuestionAccepted labels r l) (u .none) a);
+            left = ap (λ (x : List ℕ). drop (recordLength x) x) (u .all);
+          });
     })
     (λ (r : Read labels bytes read l). absurd (cons≢nil (sym (r .one) ∙ a .alone)))
     (g .either)
@@ -71,13 +71,13 @@ question-accepts labels bytes e =
     let one = refusal-none _ _ e in
     let two = refusal-none _ _ (one .1) in
     let w =
-        walk-keeps (questionTests labels) (λ (read : List Key) (l : List ℕ). read ++ (keyIn (recordBody l) ∷ [])) (QuestionAt labels bytes)
-        (question-long labels)
-        (question-kept labels bytes)
-        0
-        []
-        bytes
-        (record { either = inl (record { none = refl; all = refl }) }) in
+    walk-keeps (questionTests labels) (λ (read : List Key) (l : List ℕ). read ++ (keyIn (recordBody l) ∷ [])) (QuestionAt labels bytes)
+    (question-long labels)
+    (question-kept labels bytes)
+    0
+    []
+    bytes
+    (record { either = inl (record { none = refl; all = refl }) }) in
     ⊎-elim (λ (u : Unread bytes _ (w .rest)). absurd (not-empty bytes (sym (u .all) ∙ w .sound (one .0)) (two .0)))
     (λ (r : Read labels bytes _ (w .rest)).
     let ended : drop (recordLength bytes) bytes ≡ [] = sym (r .left) ∙ w .sound (one .0) in
@@ -145,8 +145,8 @@ lines-written-kept labels bytes n lines l g h e =
     record {
       small = bytes-drop (recordLength l) (g .small);
       are =
-        one-more lineBytes lines (readLine (recordBody l)) (drop (recordLength l) l) l bytes
-        (line-written l (g .small) (a .isWhole) (a .kind)) (g .are);
+          one-more lineBytes lines (readLine (recordBody l)) (drop (recordLength l) l) l bytes
+          (line-written l (g .small) (a .isWhole) (a .kind)) (g .are);
     }
 
 pub lines-written : (labels : List Label) (bytes : List ℕ) → Bytes bytes

@@ -4,10 +4,11 @@ use mathlib.Core.Path.{_≡_, refl, sym, subst, ap, _∙_}
 use mathlib.Core.Bool.{Bool, true, false, cond, _&&_, _||_, not}
 use mathlib.Core.List.{List, [], _∷_, _++_, map, flatten, append-assoc, append-nil}
 use native.Mathlib.Omega.{arith}
-use native.Mathlib.Nat.{add-zero, add-suc}
+use native.Mathlib.Nat.{add-zero, zero-add}
 use borrow.Author.Tests.{le-leb, lt-leb, le-ltb, eq-eqb}
 use lib.Dec.{leb, ltb, eqb}
 use lib.ListN.{length, drop, length-append}
+use lib.Seq.{append-snoc}
 use Rattle.meaning.specs.Limits.{inProfile, inProof}
 use Rattle.meaning.specs.Lists.{Each, end, also, isEmpty}
 use Rattle.meaning.specs.Paths.{Label}
@@ -95,11 +96,11 @@ module _ (labels : List Label) where
       record {
         some = record-some 3 body (omega arith);
         accepted =
-          λ rest.
-          node-passes labels nodes (recordBytes 3 body ++ rest) room
-          (written-whole 3 body rest (omega arith) (omega arith) ∙ (unfold bodyEnds in refl))
-          (written-kind 3 body rest (omega arith))
-          (rw (same rest) good);
+            λ rest.
+            node-passes labels nodes (recordBytes 3 body ++ rest) room
+            (written-whole 3 body rest (omega arith) (omega arith) ∙ (unfold bodyEnds in refl))
+            (written-kind 3 body rest (omega arith))
+            (rw (same rest) good);
         long = record-long 3 body (omega arith);
         behind = record-behind 3 body (omega arith);
         read = λ rest. ap (λ (y : Node). nodes ++ (y ∷ [])) (same rest);
@@ -109,3 +110,21 @@ module _ (labels : List Label) where
       same rest =
           ap readNode (written-body 3 (wordBytes (x .parent) ++ (x .label ∷ wordBytes (x .value))) rest (omega arith))
           ∙ node-read x (fits .parent) (fits .value)
+
+pub add-all-end : {A : Type 0} (tests : List A → List ℕ → List (ℕ × Bool)) (next : List A → List ℕ → List A) (encode : A → List ℕ) (done xs : List A)
+    → addAll tests next atEnd encode done xs ≡ done ++ xs
+add-all-end tests next encode done [] = sym (append-nil done)
+add-all-end tests next encode done (x ∷ xs) = add-all-end tests next encode (done ++ (x ∷ [])) xs ∙ append-snoc done x xs
+
+-- a walk over encodings to the end
+pub walk-written-all : {A : Type 0} (tests : List A → List ℕ → List (ℕ × Bool)) (next : List A → List ℕ → List A) (encode : A → List ℕ)
+    (xs : List A) → AllRead tests next atEnd encode [] xs
+    → walk tests next 0 0 [] (flatten (map encode xs)) ≡ record { number = 0; at = length xs; state = xs }
+walk-written-all {A = A} tests next encode xs all =
+    ap (λ (l : List ℕ). walk tests next 0 0 [] l) (sym (append-nil (flatten (map encode xs))))
+    ∙ (walk-written tests next atEnd encode 0 [] all
+    ∙ (walk-end tests next (0 + length xs) (addAll tests next atEnd encode [] xs) ∙ finish (0 + length xs) (addAll tests next atEnd encode [] xs) (zero-add (length xs)) (add-all-end tests next encode [] xs)))
+  where
+    finish : (n : ℕ) (ys : List A) → n ≡ length xs → ys ≡ xs
+        → _≡_ {A = Walked (List A)} (record { number = 0; at = n; state = ys }) (record { number = 0; at = length xs; state = xs })
+    finish n ys e q = λ i. record { number = 0; at = e i; state = q i }

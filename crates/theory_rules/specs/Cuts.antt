@@ -1,14 +1,14 @@
 -- Where a path can be cut: the parts that rules 4, 7 and 8 speak of are found by their lengths.
-use Prim.Native.Nat.{ℕ, zero, suc, _+_, _-_, _<_, _≤_}
-use mathlib.Core.Path.{_≡_, refl, sym, _∙_, ap, subst}
-use mathlib.Core.Logic.{_⊎_, inl, inr, ⊎-elim}
+use Prim.Native.Nat.{ℕ, zero, suc, _+_, _-_}
+use mathlib.Core.Path.{_≡_, refl, sym, _∙_, ap}
+use mathlib.Core.Logic.{_⊎_, inl, inr}
 use mathlib.Core.List.{List, [], _∷_, _++_}
 use native.Mathlib.Omega.{arith}
 use lib.Dec.{T}
 use lib.ListN.{length, take, drop, length-append}
 use lib.Seq.{take-at, drop-append-seam}
 use Rattle.meaning.specs.Paths.{normal, norm, join, simple}
-use Rattle.theory_paths.specs.Normal.{norm-of-normal, norm-normal, norm-append-left, norm-append-right}
+use Rattle.theory_paths.specs.Normal.{norm-of-normal, norm-append-left, norm-append-right}
 use Rattle.theory_paths.specs.Simple.{join-simple}
 
 -- A join of two paths in normal form is the append, or the append without the second's first 0

@@ -1,30 +1,15 @@
 -- Each rule of inference is decided, for well-formed keys: what the checker computes.
-use Prim.Native.Nat.{ℕ, zero, suc}
+use Prim.Native.Nat.{ℕ}
 use mathlib.Core.Path.{_≡_, refl, sym, _∙_, ap, ap₂, subst}
 use mathlib.Core.Logic.{_⊎_, inl, inr, ⊎-elim, Dec·and}
-use mathlib.Core.HLevel.{Discrete}
-use mathlib.Core.Bool.{Bool}
-use mathlib.Core.List.{List, [], _∷_, _++_, map, List·Memᴰ, List·Memᴰ·head, List·Memᴰ·tail, List·Memᴰ·cases-cons, List·Memᴰ·not-nil, List-discrete, nil≢cons, cons≢nil, head-eq-of-cons-eq, tail-eq-of-cons-eq}
+use mathlib.Core.List.{List, [], _∷_, _++_, map, List·Memᴰ, List·Memᴰ·head, List·Memᴰ·tail, List·Memᴰ·cases-cons, List·Memᴰ·not-nil, List-discrete, cons≢nil, head-eq-of-cons-eq, tail-eq-of-cons-eq}
 use native.Mathlib.Decide.{ℕ-discrete, map-dec}
 use lib.Dec.{T}
-use lib.ListN.{length, take}
 use Rattle.meaning.specs.Lists.{Each}
 use Rattle.meaning.specs.Lists.Each.{end, also}
-use Rattle.meaning.specs.Paths.{Label, normal, norm, join, simple, member, Included}
+use Rattle.meaning.specs.Paths.{Label, normal, norm, join, simple, Included}
 use Rattle.meaning.specs.Keys.{Key}
-use Rattle.meaning.specs.Rules.{
-  Epsilon,
-  BeginsSome,
-  PrefixEpsilon,
-  Superkey,
-  Subnodes,
-  ContextPath,
-  TargetPath,
-  ContextTarget,
-  withEmpty,
-  SubnodesEpsilon,
-  Interaction,
-}
+use Rattle.meaning.specs.Rules.{Epsilon, BeginsSome, PrefixEpsilon, Superkey, Subnodes, ContextPath, TargetPath, ContextTarget, withEmpty, SubnodesEpsilon, Interaction}
 use Rattle.theory_paths.specs.Normal.{norm-normal}
 use Rattle.theory_trees.specs.Climb.{T-dec}
 use Rattle.theory_rules.specs.Cuts.{cutBefore, cutShared, cut-either, join-norm-left, join-norm-right, behind, behind-is}

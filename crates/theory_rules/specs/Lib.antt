@@ -3,3 +3,5 @@ pub mod Rules
 pub mod Accepted
 pub mod Cuts
 pub mod Decided
+pub mod Lines
+pub mod Judged
