@@ -1,0 +1,6 @@
+-- ARGUMENT 4 and 5: the steps on lines of symbols, and the proof that is written.
+pub mod Logic
+pub mod Sets
+pub mod Spots
+pub mod Firing
+pub mod Written

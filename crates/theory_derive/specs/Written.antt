@@ -1,0 +1,104 @@
+-- ARGUMENT 5: the lines of the proof, from the remembered steps, the latest first.
+use Prim.Native.Nat.{ℕ, zero, suc, _+_, _-_}
+use mathlib.Core.Bool.{Bool, true, false, cond}
+use mathlib.Core.List.{List, [], _∷_, _++_, map}
+use lib.Dec.{leb}
+use lib.ListN.{length, getD, take, drop}
+use Rattle.meaning.specs.Limits.{noNumber}
+use Rattle.meaning.specs.Paths.{norm}
+use Rattle.meaning.specs.Keys.{Key}
+use Rattle.meaning.specs.Rules.{Line, withEmpty}
+use Rattle.meaning.specs.Records.{noKey}
+use Rattle.meaning.specs.Pattern.{tOf}
+use Rattle.theory_derive.specs.Sets.{insert, unite}
+use Rattle.theory_derive.specs.Spots.{Taken, chainOf, branchOf, lineOf, part, holdsEmpty}
+
+-- a key whose context and target are parts of a line, in normal form
+unfoldable pub keyOf : List ℕ → List ℕ → List (List ℕ) → Key
+keyOf C X S = record { context = norm C; target = norm X; paths = S }
+
+-- "For chain node h let K h = (norm (C++T)[0..h], (norm (C++T)[h..n], S))"
+unfoldable pub keyAt : Key → ℕ → Key
+keyAt asked h = keyOf (take h (chainOf asked)) (drop h (chainOf asked)) (asked .paths)
+
+unfoldable pub oneLine : ℕ → ℕ → Key → Line
+oneLine rule first key = record { rule = rule; first = first; second = noNumber; key = key }
+
+unfoldable pub twoLine : ℕ → ℕ → ℕ → Key → Line
+twoLine rule first second key = record { rule = rule; first = first; second = second; key = key }
+
+module _ (asked : Key) (s : Key) (number i j k : ℕ) where
+  -- "A' = norm (C++T)[0..i]", before its normal form
+  unfoldable pub above : List ℕ
+  above = take i (chainOf asked)
+
+  -- from chain node i to the spot, and on to t
+  unfoldable pub toSpot : List ℕ
+  toSpot = part i k (lineOf asked j)
+
+  unfoldable pub toT : List ℕ
+  toT = drop i (chainOf asked)
+
+  -- "rule 0: s · rule 5: (A', (T_s, S_s)) · rule 6: (A', (norm line j [i..k], S_s))"
+  unfoldable pub opening : ℕ → List Line
+  opening at =
+      oneLine 0 number s
+      ∷ oneLine 5 at (record { context = norm above; target = s .target; paths = s .paths })
+      ∷ oneLine 6 (at + 1) (keyOf above toSpot (s .paths)) ∷ []
+
+  -- k ≤ n: F = (C++T)[k..n]
+  unfoldable pub onward : List ℕ
+  onward = drop k (chainOf asked)
+
+  -- "S_s = { F.p : p in S' }", "U = S united with S'"
+  unfoldable pub beyond : List (List ℕ)
+  beyond = map (drop (length onward)) (s .paths)
+
+  unfoldable pub united : List (List ℕ)
+  united = unite (asked .paths) beyond
+
+  unfoldable pub chainLines : ℕ → List Line
+  chainLines at =
+      oneLine 3 (at + 2) (keyOf above toSpot (map (λ (p : List ℕ). onward ++ p) united))
+      ∷ oneLine 7 (at - 1) (keyOf (take k (chainOf asked)) onward (asked .paths))
+      ∷ oneLine 3 (at + 4) (keyOf (take k (chainOf asked)) onward united)
+      ∷ twoLine 9 (at + 3) (at + 5) (keyOf above toT united)
+      ∷ cond (holdsEmpty asked) (oneLine 2 (at + 6) (keyAt asked i) ∷ []) []
+
+  -- k > n: P_j = G.H with G = line j [n..k]
+  unfoldable pub belowSpot : List ℕ
+  belowSpot = drop k (lineOf asked j)
+
+  -- without e in S
+  unfoldable pub endLines : ℕ → List Line
+  endLines at =
+      oneLine 4 (at + 2) (keyOf above toT (branchOf asked j ∷ []))
+      ∷ oneLine 3 (at + 3) (keyAt asked i) ∷ []
+
+  -- with e in S
+  unfoldable pub emptyLines : ℕ → List Line
+  emptyLines at =
+      oneLine 3 (at + 2) (keyOf above toSpot (insert [] (s .paths)))
+      ∷ oneLine 2 (at + 3) (keyOf above toSpot (withEmpty belowSpot))
+      ∷ oneLine 8 (at + 4) (keyOf above toT (withEmpty (branchOf asked j)))
+      ∷ oneLine 3 (at + 5) (keyAt asked i) ∷ []
+
+  -- The lines of one step: `at` lines stand before them, the last of which is K h; their last is K i
+  unfoldable pub stepLines : ℕ → List Line
+  stepLines at =
+      opening at
+      ++ cond (leb k (tOf asked)) (chainLines at) (cond (holdsEmpty asked) (emptyLines at) (endLines at))
+
+unfoldable pub takenLines : List Key → Key → Taken → ℕ → List Line
+takenLines keys asked t at = stepLines asked (getD keys (t .key) noKey) (t .key) (t .node) (t .branch) (t .spot) at
+
+-- "Take every remembered step .., last first; each gives K i from K h"; "from K h with h < c the question follows by rule 7"
+unfoldable pub linesFrom : List Key → Key → ℕ → List Taken → List Line
+linesFrom keys asked at [] = oneLine 7 (at - 1) asked ∷ []
+linesFrom keys asked at (t ∷ steps) =
+    let lines = takenLines keys asked t at in
+    lines ++ linesFrom keys asked (at + length lines) steps
+
+-- "K n is rule 1, the first line (written always ..)"
+unfoldable pub proofLines : List Key → Key → List Taken → List Line
+proofLines keys asked steps = oneLine 1 noNumber (keyAt asked (tOf asked)) ∷ linesFrom keys asked 1 steps
