@@ -4,3 +4,5 @@ pub mod Sets
 pub mod Spots
 pub mod Firing
 pub mod Written
+pub mod Parts
+pub mod Lines
