@@ -6,3 +6,4 @@ pub mod Firing
 pub mod Written
 pub mod Parts
 pub mod Lines
+pub mod Landing
