@@ -7,3 +7,5 @@ pub mod Written
 pub mod Parts
 pub mod Lines
 pub mod Landing
+pub mod Runs
+pub mod Step

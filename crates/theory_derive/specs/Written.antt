@@ -27,67 +27,61 @@ oneLine rule first key = record { rule = rule; first = first; second = noNumber;
 unfoldable pub twoLine : ℕ → ℕ → ℕ → Key → Line
 twoLine rule first second key = record { rule = rule; first = first; second = second; key = key }
 
-module _ (asked : Key) (s : Key) (number i j k : ℕ) where
-  -- "A' = norm (C++T)[0..i]", before its normal form
-  unfoldable pub above : List ℕ
-  above = take i (chainOf asked)
+-- "A' = norm (C++T)[0..i]", before its normal form
+unfoldable pub above : Key → ℕ → List ℕ
+above asked i = take i (chainOf asked)
 
-  -- from chain node i to the spot, and on to t
-  unfoldable pub toSpot : List ℕ
-  toSpot = part i k (lineOf asked j)
+-- from chain node i to the spot, and from it to t. For k ≤ n the latter from k on is F = (C++T)[k..n]
+unfoldable pub toSpot : Key → ℕ → ℕ → ℕ → List ℕ
+toSpot asked i j k = part i k (lineOf asked j)
 
-  unfoldable pub toT : List ℕ
-  toT = drop i (chainOf asked)
+unfoldable pub toT : Key → ℕ → List ℕ
+toT asked i = drop i (chainOf asked)
 
-  -- "rule 0: s · rule 5: (A', (T_s, S_s)) · rule 6: (A', (norm line j [i..k], S_s))"
-  unfoldable pub opening : ℕ → List Line
-  opening at =
-      oneLine 0 number s
-      ∷ oneLine 5 at (record { context = norm above; target = s .target; paths = s .paths })
-      ∷ oneLine 6 (at + 1) (keyOf above toSpot (s .paths)) ∷ []
+-- k > n: P_j = G.H with G = line j [n..k], and this is H
+unfoldable pub belowSpot : Key → ℕ → ℕ → List ℕ
+belowSpot asked j k = drop k (lineOf asked j)
 
-  -- k ≤ n: F = (C++T)[k..n]
-  unfoldable pub onward : List ℕ
-  onward = drop k (chainOf asked)
+-- "rule 0: s · rule 5: (A', (T_s, S_s)) · rule 6: (A', (norm line j [i..k], S_s))"
+unfoldable pub opening : Key → Key → ℕ → ℕ → ℕ → ℕ → ℕ → List Line
+opening asked s number i j k at =
+    oneLine 0 number s
+    ∷ oneLine 5 at (record { context = norm (above asked i); target = s .target; paths = s .paths })
+    ∷ oneLine 6 (at + 1) (keyOf (above asked i) (toSpot asked i j k) (s .paths)) ∷ []
 
-  -- "S_s = { F.p : p in S' }", "U = S united with S'"
-  unfoldable pub beyond : List (List ℕ)
-  beyond = map (drop (length onward)) (s .paths)
+-- k ≤ n. "S_s = { F.p : p in S' }", "U = S united with S'"; "Without e, U = S"
+unfoldable pub beyond : Key → Key → ℕ → List (List ℕ)
+beyond asked s k = map (drop (length (toT asked k))) (s .paths)
 
-  unfoldable pub united : List (List ℕ)
-  united = unite (asked .paths) beyond
+unfoldable pub united : Key → Key → ℕ → List (List ℕ)
+united asked s k = cond (holdsEmpty asked) (unite (asked .paths) (beyond asked s k)) (asked .paths)
 
-  unfoldable pub chainLines : ℕ → List Line
-  chainLines at =
-      oneLine 3 (at + 2) (keyOf above toSpot (map (λ (p : List ℕ). onward ++ p) united))
-      ∷ oneLine 7 (at - 1) (keyOf (take k (chainOf asked)) onward (asked .paths))
-      ∷ oneLine 3 (at + 4) (keyOf (take k (chainOf asked)) onward united)
-      ∷ twoLine 9 (at + 3) (at + 5) (keyOf above toT united)
-      ∷ cond (holdsEmpty asked) (oneLine 2 (at + 6) (keyAt asked i) ∷ []) []
+unfoldable pub chainLines : Key → Key → ℕ → ℕ → ℕ → ℕ → List Line
+chainLines asked s i j k at =
+    oneLine 3 (at + 2) (keyOf (above asked i) (toSpot asked i j k) (map (λ (p : List ℕ). toT asked k ++ p) (united asked s k)))
+    ∷ oneLine 7 (at - 1) (keyOf (above asked k) (toT asked k) (asked .paths))
+    ∷ oneLine 3 (at + 4) (keyOf (above asked k) (toT asked k) (united asked s k))
+    ∷ twoLine 9 (at + 3) (at + 5) (keyOf (above asked i) (toT asked i) (united asked s k))
+    ∷ cond (holdsEmpty asked) (oneLine 2 (at + 6) (keyAt asked i) ∷ []) []
 
-  -- k > n: P_j = G.H with G = line j [n..k]
-  unfoldable pub belowSpot : List ℕ
-  belowSpot = drop k (lineOf asked j)
+-- k > n, without e in S
+unfoldable pub endLines : Key → ℕ → ℕ → ℕ → List Line
+endLines asked i j at =
+    oneLine 4 (at + 2) (keyOf (above asked i) (toT asked i) (branchOf asked j ∷ [])) ∷ oneLine 3 (at + 3) (keyAt asked i) ∷ []
 
-  -- without e in S
-  unfoldable pub endLines : ℕ → List Line
-  endLines at =
-      oneLine 4 (at + 2) (keyOf above toT (branchOf asked j ∷ []))
-      ∷ oneLine 3 (at + 3) (keyAt asked i) ∷ []
+-- k > n, with e in S
+unfoldable pub emptyLines : Key → Key → ℕ → ℕ → ℕ → ℕ → List Line
+emptyLines asked s i j k at =
+    oneLine 3 (at + 2) (keyOf (above asked i) (toSpot asked i j k) (insert [] (s .paths)))
+    ∷ oneLine 2 (at + 3) (keyOf (above asked i) (toSpot asked i j k) (withEmpty (belowSpot asked j k)))
+    ∷ oneLine 8 (at + 4) (keyOf (above asked i) (toT asked i) (withEmpty (branchOf asked j)))
+    ∷ oneLine 3 (at + 5) (keyAt asked i) ∷ []
 
-  -- with e in S
-  unfoldable pub emptyLines : ℕ → List Line
-  emptyLines at =
-      oneLine 3 (at + 2) (keyOf above toSpot (insert [] (s .paths)))
-      ∷ oneLine 2 (at + 3) (keyOf above toSpot (withEmpty belowSpot))
-      ∷ oneLine 8 (at + 4) (keyOf above toT (withEmpty (branchOf asked j)))
-      ∷ oneLine 3 (at + 5) (keyAt asked i) ∷ []
-
-  -- The lines of one step: `at` lines stand before them, the last of which is K h; their last is K i
-  unfoldable pub stepLines : ℕ → List Line
-  stepLines at =
-      opening at
-      ++ cond (leb k (tOf asked)) (chainLines at) (cond (holdsEmpty asked) (emptyLines at) (endLines at))
+-- The lines of one step: `at` lines stand before them, the last of which is K h; their last is K i
+unfoldable pub stepLines : Key → Key → ℕ → ℕ → ℕ → ℕ → ℕ → List Line
+stepLines asked s number i j k at =
+    opening asked s number i j k at
+    ++ cond (leb k (tOf asked)) (chainLines asked s i j k at) (cond (holdsEmpty asked) (emptyLines asked s i j k at) (endLines asked i j at))
 
 unfoldable pub takenLines : List Key → Key → Taken → ℕ → List Line
 takenLines keys asked t at = stepLines asked (getD keys (t .key) noKey) (t .key) (t .node) (t .branch) (t .spot) at
