@@ -9,3 +9,5 @@ pub mod Lines
 pub mod Landing
 pub mod Runs
 pub mod Step
+pub mod Branch
+pub mod Follow

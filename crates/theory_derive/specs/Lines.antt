@@ -8,6 +8,7 @@ use mathlib.Core.List.{List, [], _∷_, _++_, append-assoc, append-nil, List·Me
 use native.Mathlib.Omega.{arith}
 use lib.Dec.{T, eqb, leb, le→leb}
 use lib.ListN.{length, getD, take, drop, length-append, length-take, length-drop, take-append-drop}
+use lib.Seq.{split-at}
 use Rattle.meaning.specs.Limits.{KeyLimits, inProfile, inProof}
 use Rattle.meaning.specs.Lists.{Each, end, also, every, ascending}
 use Rattle.meaning.specs.Paths.{Label, classOf, normal, norm, join, simple, valid}
@@ -19,7 +20,7 @@ use Rattle.meaning.specs.Refusals.{isSymbol, goodPath, goodSymbols, goodSet}
 use Rattle.theory_paths.specs.Bools.{both, every-append, every-left, every-right, Each-at, Each-of, Each-every}
 use Rattle.theory_paths.specs.Normal.{norm-normal}
 use Rattle.theory_paths.specs.Simple.{simple-left, simple-right, simple-normal, simple-append}
-use Rattle.theory_paths.specs.Valid.{valid-left, valid-norm}
+use Rattle.theory_paths.specs.Valid.{mayStep, valid-left, valid-norm, valid-before}
 use Rattle.theory_paths.specs.Good.{GoodKey, context-symbols, target-symbols, key-path-symbols, key-path-simple, key-path-length, context-length, target-length, paths-some, paths-within, paths-ascending, valid-whole, valid-joined, context-normal, target-normal}
 use Rattle.theory_derive.specs.Logic.{each-imp, getD-mem}
 use Rattle.theory_derive.specs.Parts.{every-norm, norm-length, join-norms-three}
@@ -154,3 +155,21 @@ module _ (labels : List Label) (asked : Key) (g : GoodKey labels inProfile asked
       (omega (arith, length-take h (chainOf asked), chain-short)) (omega (arith, length-drop h (chainOf asked), chain-short))
       (paths-some labels inProfile asked g) (omega (arith, paths-within labels inProfile asked g)) (paths-ascending labels inProfile asked g)
       (subst (λ l. Each (ReadOff asked l) (asked .paths)) (sym e) (Each-of (asked .paths) (λ p m. begins-read p (among-begins p m))))
+
+  -- each line is valid, so what stands before another symbol of it steps on
+  pub line-valid : (j : ℕ) → j < length (asked .paths) → T (valid (classOf labels) (lineOf asked j))
+  unfolding lineOf
+  line-valid j h =
+      on-valid (lineOf asked j)
+      (record { path = branchOf asked j; among = branch-among asked j h; rest = []; whole = append-nil (lineOf asked j) })
+
+  pub before-steps : (i j : ℕ) → j < length (asked .paths) → i < length (lineOf asked j)
+      → T (every (mayStep (classOf labels)) (take i (lineOf asked j)))
+  before-steps i j h l =
+      valid-before (classOf labels) (take i (lineOf asked j)) (getD (lineOf asked j) i 0) (drop (suc i) (lineOf asked j))
+      (subst (λ r. T (valid (classOf labels) r)) (split-at (lineOf asked j) i 0 l) (line-valid j h))
+
+  pub chain-symbols : T (every (isSymbol labels) (chainOf asked))
+  unfolding chainOf
+  chain-symbols =
+      every-append (isSymbol labels) (asked .context) (asked .target) (context-symbols labels inProfile asked g) (target-symbols labels inProfile asked g)

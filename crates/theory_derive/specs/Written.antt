@@ -42,12 +42,17 @@ toT asked i = drop i (chainOf asked)
 unfoldable pub belowSpot : Key → ℕ → ℕ → List ℕ
 belowSpot asked j k = drop k (lineOf asked j)
 
+-- (A', (T_s, S_s)) and (A', (norm line j [i..k], S_s))
+unfoldable pub narrowed : Key → Key → ℕ → Key
+narrowed asked s i = record { context = norm (above asked i); target = s .target; paths = s .paths }
+
+unfoldable pub atSpot : Key → Key → ℕ → ℕ → ℕ → Key
+atSpot asked s i j k = keyOf (above asked i) (toSpot asked i j k) (s .paths)
+
 -- "rule 0: s · rule 5: (A', (T_s, S_s)) · rule 6: (A', (norm line j [i..k], S_s))"
 unfoldable pub opening : Key → Key → ℕ → ℕ → ℕ → ℕ → ℕ → List Line
 opening asked s number i j k at =
-    oneLine 0 number s
-    ∷ oneLine 5 at (record { context = norm (above asked i); target = s .target; paths = s .paths })
-    ∷ oneLine 6 (at + 1) (keyOf (above asked i) (toSpot asked i j k) (s .paths)) ∷ []
+    oneLine 0 number s ∷ oneLine 5 at (narrowed asked s i) ∷ oneLine 6 (at + 1) (atSpot asked s i j k) ∷ []
 
 -- k ≤ n. "S_s = { F.p : p in S' }", "U = S united with S'"; "Without e, U = S"
 unfoldable pub beyond : Key → Key → ℕ → List (List ℕ)
