@@ -53,25 +53,25 @@ superkey C X S U e = record { context = refl; target = refl; includes = e }
 module _ (labels : List Label) (keys : List Key) (asked s : Key) (number i j k : ℕ) (g : GoodKey labels inProfile asked)
     (gs : GoodKey labels inProfile s) (f : FiresBy asked s i j k) (earlier : List Key) (at : ℕ) (e : length earlier ≡ at) where
   -- a premise among the lines of this step
-  later : (first m : ℕ) → first ≡ at + m → (written : List Key) (p : Key) → getElem? written m ≡ some p → getElem? (earlier ++ written) first ≡ some p
+  pub later : (first m : ℕ) → first ≡ at + m → (written : List Key) (p : Key) → getElem? written m ≡ some p → getElem? (earlier ++ written) first ≡ some p
   later first m here written p q = found-later earlier written first m (omega arith) ∙ q
 
-  above-short : (h : ℕ) → length (above asked h) ≤ 32
+  pub above-short : (h : ℕ) → length (above asked h) ≤ 32
   unfolding above
   above-short h = omega (arith, length-take h (chainOf asked), chain-short labels asked g)
 
-  to-t-short : (h : ℕ) → length (toT asked h) ≤ 32
+  pub to-t-short : (h : ℕ) → length (toT asked h) ≤ 32
   unfolding toT
   to-t-short h = omega (arith, length-drop h (chainOf asked), chain-short labels asked g)
 
-  to-spot-short : length (toSpot asked i j k) ≤ 32
+  pub to-spot-short : length (toSpot asked i j k) ≤ 32
   unfolding toSpot part
   to-spot-short =
       omega (arith, length-drop i (take k (lineOf asked j)), length-take k (lineOf asked j), line-length asked j, chain-short labels asked g,
         chain-length asked, key-path-length labels inProfile asked g (branchOf asked j) (branch-among asked j (f .isBranch)))
 
   -- a key whose parts are read off the lines, as a line
-  read-line : (rule first second : ℕ) (C X : List ℕ) (S : List (List ℕ)) → length C ≤ 32 → length X ≤ 32 → 1 ≤ length S → length S ≤ 8
+  pub read-line : (rule first second : ℕ) (C X : List ℕ) (S : List (List ℕ)) → length C ≤ 32 → length X ≤ 32 → 1 ≤ length S → length S ≤ 8
       → T (ascending S) → Each (ReadOff asked (C ++ X)) S → FineLine labels (twoLine rule first second (keyOf C X S))
   unfolding twoLine keyOf
   read-line rule first second C X S c x any few asc r = record { good = good-read labels asked g C X S c x any (omega arith) asc r; few = few }

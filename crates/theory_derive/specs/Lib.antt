@@ -11,3 +11,4 @@ pub mod Runs
 pub mod Step
 pub mod Branch
 pub mod Follow
+pub mod FollowBelow
