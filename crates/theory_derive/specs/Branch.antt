@@ -109,8 +109,12 @@ module _ (labels : List Label) (asked s : Key) (i j k : ℕ) (g : GoodKey labels
     below-read : ReadOff asked (above asked i ++ toSpot asked i j k) (belowSpot asked j k)
     below-read =
         behind-read (belowSpot asked j k) [] below-simple
-        (omega (arith, key-path-length labels inProfile asked g (branchOf asked j) branch, ap length (within-below asked s i j k f h),
-          length-append (within asked s i j k f) (belowSpot asked j k)))
+        (omega (
+          arith,
+          key-path-length labels inProfile asked g (branchOf asked j) branch,
+          ap length (within-below asked s i j k f h),
+          length-append (within asked s i j k f) (belowSpot asked j k),
+        ))
         (append-nil (belowSpot asked j k))
 
     none-read : ReadOff asked (above asked i ++ toSpot asked i j k) []

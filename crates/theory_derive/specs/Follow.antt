@@ -67,8 +67,15 @@ module _ (labels : List Label) (keys : List Key) (asked s : Key) (number i j k :
   pub to-spot-short : length (toSpot asked i j k) ≤ 32
   unfolding toSpot part
   to-spot-short =
-      omega (arith, length-drop i (take k (lineOf asked j)), length-take k (lineOf asked j), line-length asked j, chain-short labels asked g,
-        chain-length asked, key-path-length labels inProfile asked g (branchOf asked j) (branch-among asked j (f .isBranch)))
+      omega (
+        arith,
+        length-drop i (take k (lineOf asked j)),
+        length-take k (lineOf asked j),
+        line-length asked j,
+        chain-short labels asked g,
+        chain-length asked,
+        key-path-length labels inProfile asked g (branchOf asked j) (branch-among asked j (f .isBranch)),
+      )
 
   -- a key whose parts are read off the lines, as a line
   pub read-line : (rule first second : ℕ) (C X : List ℕ) (S : List (List ℕ)) → length C ≤ 32 → length X ≤ 32 → 1 ≤ length S → length S ≤ 8
@@ -81,7 +88,7 @@ module _ (labels : List Label) (keys : List Key) (asked s : Key) (number i j k :
   good1 l =
       let κ = classOf labels in
       let A = take i (chainOf asked) in
-      let steps = every-norm (mayStep κ) A (subst (λ r. T (every (mayStep κ) r)) (above-line' ) (before-steps labels asked g i j (f .isBranch) (omega (arith, f .onLine)))) in
+      let steps = every-norm (mayStep κ) A (subst (λ r. T (every (mayStep κ) r)) (above-line') (before-steps labels asked g i j (f .isBranch) (omega (arith, f .onLine)))) in
       good-make labels inProof (narrowed asked s i)
       (every-norm (isSymbol labels) A (every-left (isSymbol labels) A (drop i (chainOf asked)) (subst (λ r. T (every (isSymbol labels) r)) (sym (take-append-drop i (chainOf asked))) (chain-symbols labels asked g))))
       (norm-normal A) (omega (arith, norm-length A, length-take i (chainOf asked), chain-short labels asked g))
@@ -89,10 +96,10 @@ module _ (labels : List Label) (keys : List Key) (asked s : Key) (number i j k :
       (Each-of (s .paths) (λ p m. (key-path-symbols labels inProfile s gs p m, key-path-simple labels inProfile s gs p m, omega (arith, key-path-length labels inProfile s gs p m))))
       (paths-some labels inProfile s gs) (omega (arith, paths-within labels inProfile s gs)) (paths-ascending labels inProfile s gs)
       (Each-of (s .paths) (λ p m.
-        subst (λ r. T (valid κ r)) (sym (join-three (norm A) (s .target) p))
-        (subst T (sym (valid-norm κ (norm A ++ s .target ++ p)))
-        (subst (λ r. T (valid κ r)) (sym (append-assoc (norm A) (s .target) p))
-        (valid-append κ (norm A) (s .target ++ p) steps (valid-below labels inProfile s gs p m))))))
+      subst (λ r. T (valid κ r)) (sym (join-three (norm A) (s .target) p))
+      (subst T (sym (valid-norm κ (norm A ++ s .target ++ p)))
+      (subst (λ r. T (valid κ r)) (sym (append-assoc (norm A) (s .target) p))
+      (valid-append κ (norm A) (s .target ++ p) steps (valid-below labels inProfile s gs p m))))))
     where
       above-line' : take i (lineOf asked j) ≡ take i (chainOf asked)
       above-line' = Step.above-line asked s i j k f

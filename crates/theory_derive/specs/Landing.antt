@@ -113,5 +113,5 @@ module _ (asked : Key) (j k : ℕ) (p : List ℕ) (h : LandsAt asked j k p) (l :
   below-whole none =
       sym (append-nil p)
       ∙ ap (λ q. p ++ q) (sym (drop-of-length-le (lineOf asked j) {i = k + length p}
-        (omega (arith, mark-end asked j k p h none, ap (λ b. length (lineOf asked b)) (h .inBranch l)))))
+      (omega (arith, mark-end asked j k p h none, ap (λ b. length (lineOf asked b)) (h .inBranch l)))))
       ∙ below-begins

@@ -12,3 +12,4 @@ pub mod Step
 pub mod Branch
 pub mod Follow
 pub mod FollowBelow
+pub mod Accept

@@ -62,7 +62,7 @@ pub good-make : (labels : List Label) (limits : KeyLimits) (k : Key) → T (ever
 unfolding goodSymbols goodSet goodPath Refusals.allValid
 good-make labels limits k cs cn cl ts tn tl ps some within asc ok =
     let path : (p : List ℕ) (limit : ℕ) → T (every (isSymbol labels) p) → T (normal p) → length p ≤ limit → T (goodPath labels limit p) =
-        λ p limit s m l. both (every (isSymbol labels) p && normal p) (leb (length p) limit) (both (every (isSymbol labels) p) (normal p) s m) (le→leb (length p) limit l) in
+    λ p limit s m l. both (every (isSymbol labels) p && normal p) (leb (length p) limit) (both (every (isSymbol labels) p) (normal p) s m) (le→leb (length p) limit l) in
     record {
       symbols = both (goodPath labels (limits .symbols) (k .context) && goodPath labels (limits .symbols) (k .target)) _
           (both (goodPath labels (limits .symbols) (k .context)) (goodPath labels (limits .symbols) (k .target))

@@ -165,8 +165,13 @@ module _ (labels : List Label) (asked s : Key) (i j k : ℕ) (g : GoodKey labels
     where
       go : (b : Bool) → length (cond b (unite (asked .paths) (beyond asked s k)) (asked .paths)) ≤ 8
       go true =
-          omega (arith, unite-length (asked .paths) (beyond asked s k), paths-within labels inProfile asked g, paths-within labels inProfile s gs,
-            length-map (s .paths) (drop (length (toT asked k))))
+          omega (
+            arith,
+            unite-length (asked .paths) (beyond asked s k),
+            paths-within labels inProfile asked g,
+            paths-within labels inProfile s gs,
+            length-map (s .paths) (drop (length (toT asked k))),
+          )
       go false = omega (arith, paths-within labels inProfile asked g)
 
   pub united-some : 1 ≤ length (united asked s k)
