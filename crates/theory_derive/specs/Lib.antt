@@ -13,3 +13,4 @@ pub mod Branch
 pub mod Follow
 pub mod FollowBelow
 pub mod Accept
+pub mod Bytes
