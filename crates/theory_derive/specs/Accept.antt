@@ -167,7 +167,7 @@ module _ (labels : List Label) (keys : List Key) (asked : Key) (gk : Each (GoodK
   turns begun = (omega arith, omega arith)
   turns (taken t chain un f uk iu) = let r = turns chain in (omega arith, omega arith)
 
-  steps-few : {u : ℕ} {steps : List Taken} → Chain keys asked u steps → length steps ≤ 8
+  pub steps-few : {u : ℕ} {steps : List Taken} → Chain keys asked u steps → length steps ≤ 8
   unfolding qOf tOf
   steps-few chain = let r = turns chain in omega (arith, target-length labels inProfile asked g)
 
