@@ -14,3 +14,4 @@ pub mod Follow
 pub mod FollowBelow
 pub mod Accept
 pub mod Bytes
+pub mod Numbers
