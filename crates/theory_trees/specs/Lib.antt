@@ -6,4 +6,3 @@ pub mod Climb
 pub mod Reach
 pub mod Sameness
 pub mod Breaking
-pub mod Files
