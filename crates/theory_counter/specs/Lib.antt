@@ -20,3 +20,4 @@ pub mod Dressing
 pub mod WrittenLaws
 pub mod WrittenTable
 pub mod Counterexample
+pub mod Size
