@@ -21,3 +21,4 @@ pub mod WrittenLaws
 pub mod WrittenTable
 pub mod Counterexample
 pub mod Size
+pub mod WrittenFile

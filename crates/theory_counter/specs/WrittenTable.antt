@@ -1,7 +1,7 @@
 -- The table that the written nodes say is the doubled pattern of `Doubled`.
 use Prim.Native.Nat.{ℕ, zero, suc, _+_, _-_, _≤_, _<_}
 use mathlib.Core.Path.{_≡_, refl, sym, ap, ap₂, subst, _∙_}
-use mathlib.Core.Logic.{_≢_}
+use mathlib.Core.Logic.{_≢_, _⊎_, inl, inr}
 use mathlib.Core.Bool.{Bool, true, false, cond, _&&_, not, and-true, and-false}
 use mathlib.Core.List.{List, [], _∷_, _++_}
 use native.Mathlib.Omega.{arith}
@@ -216,3 +216,82 @@ module _ (κ : ℕ → Class) (asked : Key) (u : ℕ) (hu : u < length (patternN
             (omega arith, omega arith);
         secondCopy = λ {x} {f} st h. let n = number-first P x f in let m = number-second P x f h in omega arith;
       }
+
+  -- "An element's value is 0"
+  value-element : (s : Bool) {x : ℕ} {f : Bool} → Stands κ (pattern asked) x f
+      → T (isElement (κ (getD (writtenNodes κ asked u) (numberIn κ asked u s x f) noNode .label)))
+      → getD (writtenNodes κ asked u) (numberIn κ asked u s x f) noNode .value ≡ 0
+  unfolding writtenNode
+  value-element s {x} {f} st n =
+      let y = placeOf κ asked x + bit f in
+      let sh = shift u (gapOf κ asked u) s x in
+      let d = getD (dressedNodes κ asked) y (noDressed κ asked) in
+      let same : getD (writtenNodes κ asked u) (numberIn κ asked u s x f) noNode .label ≡ d .label =
+      ap (λ (n : Node). n .label) (written-at κ asked u hu s x f st) in
+      ap (λ (n : Node). n .value) (written-at κ asked u hu s x f st)
+      ∙ ap (λ (b : Bool). cond b 0 (cond (d .mark) y (y + sh)))
+      (true-of (isElement (κ (d .label))) (subst (λ (l : ℕ). T (isElement (κ l))) same n))
+
+  pub element-zero : (n : ℕ) → n < length (writtenNodes κ asked u) → T (isElement (κ (getD (writtenNodes κ asked u) n noNode .label)))
+      → getD (writtenNodes κ asked u) n noNode .value ≡ 0
+  element-zero n h t =
+      let i = spot-at n h in
+      ap (λ (k : ℕ). getD (writtenNodes κ asked u) k noNode .value) (i .here)
+      ∙ value-element (i .second) (i .stands)
+      (subst (λ (k : ℕ). T (isElement (κ (getD (writtenNodes κ asked u) k noNode .label)))) (i .here) t)
+
+  -- every value is the number of a node, or 0
+  pub value-within : (n : ℕ) → n < length (writtenNodes κ asked u) → getD (writtenNodes κ asked u) n noNode .value < length (writtenNodes κ asked u)
+  unfolding numberIn
+  value-within n h = go (isElement (κ (getD (writtenNodes κ asked u) n noNode .label))) refl (spot-at n h)
+    where
+      go : (b : Bool) → isElement (κ (getD (writtenNodes κ asked u) n noNode .label)) ≡ b → Spot κ (pattern asked) (numberIn κ asked u) n
+          → getD (writtenNodes κ asked u) n noNode .value < length (writtenNodes κ asked u)
+      go true e i = let z = element-zero n h (subst (λ (b : Bool). T b) (sym e) tt) in omega arith
+      go false e i =
+          let v : getD (writtenNodes κ asked u) n noNode .value ≡ numberIn κ asked u (i .second && not (marked asked (i .node))) (i .node) (i .filler) =
+          ap (λ (k : ℕ). getD (writtenNodes κ asked u) k noNode .value) (i .here)
+          ∙ value-at (i .second) (i .stands)
+          (subst (λ (k : ℕ). T (not (isElement (κ (getD (writtenNodes κ asked u) k noNode .label))))) (i .here)
+          (subst (λ (b : Bool). T (not b)) (sym e) tt)) in
+          let l = written-length κ asked u hu in
+          let w = number-within (placing κ asked u hu) (i .second && not (marked asked (i .node))) (i .stands) in
+          omega arith
+
+  -- "the root is node 0 with parent 65535"
+  root-number : numberIn κ asked u false 0 false ≡ 0
+  unfolding numberIn bit
+  root-number = let P = placing κ asked u hu in let n = number-first P 0 false in let z = P .start in omega arith
+
+  root-place : placeOf κ asked 0 + bit false ≡ 0
+  unfolding bit
+  root-place = let z = placing κ asked u hu .start in omega arith
+
+  pub root-parent : getD (writtenNodes κ asked u) 0 noNode .parent ≡ noNumber
+  unfolding writtenNode
+  root-parent =
+      let cut = placeOf κ asked (suc u) in
+      let sh = shift u (gapOf κ asked u) false 0 in
+      ap (λ (k : ℕ). getD (writtenNodes κ asked u) k noNode .parent) (sym root-number)
+      ∙ ap (λ (n : Node). n .parent) (written-at κ asked u hu false 0 false (own-place 0 (omega arith)))
+      ∙ ap (λ (y : ℕ). writtenNode κ asked cut sh y .parent) root-place
+
+  -- a node below the root is a filler or has a pattern node's label
+  pub label-of : (n : ℕ) → 0 < n → n < length (writtenNodes κ asked u)
+      → (getD (writtenNodes κ asked u) n noNode .label ≡ fillerAttribute)
+      ⊎ ((x : ℕ) × (0 < x) × (x < length (patternNodes asked)) × (getD (writtenNodes κ asked u) n noNode .label ≡ getD (patternNodes asked) x noNode .label))
+  unfolding pattern tableOf numberIn bit
+  label-of n pos h = let i = spot-at n h in go (i .second) (i .node) (i .filler) (i .stands) (i .here)
+    where
+      go : (s : Bool) (x : ℕ) (f : Bool) → Stands κ (pattern asked) x f → n ≡ numberIn κ asked u s x f
+          → (getD (writtenNodes κ asked u) n noNode .label ≡ fillerAttribute)
+          ⊎ ((x : ℕ) × (0 < x) × (x < length (patternNodes asked)) × (getD (writtenNodes κ asked u) n noNode .label ≡ getD (patternNodes asked) x noNode .label))
+      go s x true st e = inl (ap (λ (k : ℕ). getD (writtenNodes κ asked u) k noNode .label) e ∙ label-at s st)
+      go s zero false st e =
+          absurd
+          (let P = placing κ asked u hu in
+          let n = number-trunk P s 0 false (omega arith) in
+          let z = P .start in
+          omega arith)
+      go s (suc x) false st e =
+          inr (suc x, omega arith, st .inside, ap (λ (k : ℕ). getD (writtenNodes κ asked u) k noNode .label) e ∙ label-at s st)
