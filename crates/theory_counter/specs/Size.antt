@@ -43,7 +43,7 @@ total-most (suc most) (p ∷ S) h l =
     let r = total-most most S (λ P m. h P (List·Memᴰ·tail m)) (omega arith) in
     omega arith
 
-pub written-most : (κ : ℕ → Class) (labels : List Label) (asked : Key) → GoodKey labels inProfile asked → (u : ℕ) → qOf asked ≤ u → u < tOf asked
+pub written-most : (κ : ℕ → Class) (labels : List Label) (asked : Key) → GoodKey labels inProfile asked → (u : ℕ) → qOf asked ≤ u → u ≤ tOf asked
     → length (writtenNodes κ asked u) ≤ 178
 unfolding qOf tOf pattern tableOf
 written-most κ labels asked g u q h =

@@ -5,6 +5,7 @@ use mathlib.Core.Logic.{⊎-elim}
 use mathlib.Core.Bool.{Bool, true, false, cond, not, _&&_, _||_}
 use mathlib.Core.List.{List, [], _∷_}
 use native.Mathlib.Omega.{arith}
+use native.Mathlib.Nat.{le-of-lt}
 use lib.Dec.{T, eqb, eqb-refl}
 use lib.ListN.{length, getD}
 use Rattle.meaning.specs.Limits.{KeyLimits, inProfile, fillerElement, fillerAttribute, rootLabel, noNumber}
@@ -101,7 +102,7 @@ module _ (labels : List Label) (good : GoodLabels labels) (asked : Key) (g : Goo
         parent = above n l;
         value =
             let v = value-within (classOf labels) asked u (inside labels good inProfile asked g u h) n l in
-            let m = written-most (classOf labels) labels asked g u q h in
+            let m = written-most (classOf labels) labels asked g u q (le-of-lt h) in
             omega arith;
       }
     where
@@ -109,7 +110,7 @@ module _ (labels : List Label) (good : GoodLabels labels) (asked : Key) (g : Goo
       above zero l = let r = root-parent (classOf labels) asked u (inside labels good inProfile asked g u h) in omega arith
       above (suc n) l =
           let p = good-node labels good inProfile asked g u h (suc n) (omega arith) l .above in
-          let m = written-most (classOf labels) labels asked g u q h in
+          let m = written-most (classOf labels) labels asked g u q (le-of-lt h) in
           omega arith
 
   some-nodes : 0 < length (writtenNodes (classOf labels) asked u)
@@ -120,7 +121,7 @@ module _ (labels : List Label) (good : GoodLabels labels) (asked : Key) (g : Goo
   all-fit = each-index noNode (writtenNodes (classOf labels) asked u) fits
 
   few-nodes : length (writtenNodes (classOf labels) asked u) ≤ 4096
-  few-nodes = let m = written-most (classOf labels) labels asked g u q h in omega arith
+  few-nodes = let m = written-most (classOf labels) labels asked g u q (le-of-lt h) in omega arith
 
   -- the file is accepted
   pub counter-accepted : treeRefusal labels (writtenTree (classOf labels) asked u) ≡ sound
