@@ -1,18 +1,16 @@
 -- ARGUMENT §6, "It breaks the question": the twins of t, reached from q, and for each key path the twins of its branch's end.
-use Prim.Native.Nat.{ℕ, zero, suc, _+_, _≤_, _<_}
-use mathlib.Core.Path.{_≡_, refl, sym, ap, subst, _∙_}
+use Prim.Native.Nat.{ℕ, _≤_, _<_}
+use mathlib.Core.Path.{_≡_, sym}
 use mathlib.Core.Bool.{Bool, true, false, false≢true}
-use mathlib.Core.List.{List, [], _∷_}
+use mathlib.Core.List.{List}
 use native.Mathlib.Omega.{arith}
-use lib.Dec.{T}
-use lib.ListN.{length}
 use Rattle.meaning.specs.Lists.{Each}
 use Rattle.meaning.specs.Lists.Each.{end, also}
 use Rattle.meaning.specs.Paths.{Class}
-use Rattle.meaning.specs.Trees.{Table, Down, Reached, Equal}
+use Rattle.meaning.specs.Trees.{Table, Reached}
 use Rattle.meaning.specs.Keys.{Key, EqualPair, Breaks}
 use Rattle.theory_trees.specs.Below.{down-from, ParentsSmaller, down-greater}
-use Rattle.theory_counter.specs.Doubled.{Drawn, Stands, Written}
+use Rattle.theory_counter.specs.Doubled.{Drawn, Written}
 use Rattle.theory_counter.specs.Climb.{own, lifted}
 use Rattle.theory_counter.specs.Crossing.{Marks, down-inside}
 use Rattle.theory_counter.specs.Copies.{copies-equal}

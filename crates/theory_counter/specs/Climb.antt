@@ -1,15 +1,14 @@
 -- Reach in the written tree and in the pattern: every run of labels down to a node of one copy is a run of the pattern, and back.
-use Prim.Native.Nat.{ℕ, zero, suc, _+_, _≤_, _<_}
-use mathlib.Core.Path.{_≡_, refl, sym, ap, subst, _∙_}
-use mathlib.Core.Logic.{_≢_, _⊎_, inl, inr}
-use mathlib.Core.Bool.{Bool, true, false, cond, _&&_, not}
+use Prim.Native.Nat.{ℕ, zero, suc, _<_}
+use mathlib.Core.Path.{_≡_, refl, sym, ap, _∙_}
+use mathlib.Core.Logic.{_⊎_, inl, inr}
+use mathlib.Core.Bool.{Bool, true, false}
 use mathlib.Core.List.{List, [], _∷_, _++_}
 use native.Mathlib.Omega.{arith}
-use lib.Dec.{T}
 use Rattle.meaning.specs.Limits.{fillerAttribute}
-use Rattle.meaning.specs.Paths.{Class, attribute, isElement}
+use Rattle.meaning.specs.Paths.{Class}
 use Rattle.meaning.specs.Trees.{Table, Child, Down, here, step}
-use Rattle.theory_counter.specs.Doubled.{Drawn, Stands, Spot, Written}
+use Rattle.theory_counter.specs.Doubled.{Drawn, Stands, Written}
 
 -- v is the pattern node from which `run` leads down to y, in y's copy
 pub record Above (p : Table) (number : Bool → ℕ → Bool → ℕ) (s : Bool) (v : ℕ) (run : List ℕ) (y : ℕ) : Type 0 where

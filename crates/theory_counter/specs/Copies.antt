@@ -1,16 +1,15 @@
 -- The twins of a marked node are value-equal: law 4 of ARGUMENT §2, from the leaves up.
 use Prim.Native.Nat.{ℕ, zero, suc, _+_, _-_, _≤_, _<_}
 use mathlib.Core.Path.{_≡_, refl, sym, ap, subst, _∙_}
-use mathlib.Core.Logic.{_≢_, _⊎_, inl, inr}
-use mathlib.Core.Bool.{Bool, true, false, cond, _&&_, not, true≢false, false≢true}
-use mathlib.Core.List.{List, [], _∷_, _++_, append-nil}
+use mathlib.Core.Logic.{_≢_}
+use mathlib.Core.Bool.{Bool, true, false, _&&_, not, true≢false, false≢true}
+use mathlib.Core.List.{List, [], _++_, append-nil}
 use native.Mathlib.Omega.{arith}
 use native.Mathlib.Decide.{decLt}
 use lib.Dec.{T, eqb, eqb→eq, eqb-refl}
-use Rattle.meaning.specs.Limits.{fillerAttribute}
 use Rattle.meaning.specs.Lists.{keep, numbers}
-use Rattle.meaning.specs.Paths.{Class, element, attribute, isElement, isAttribute}
-use Rattle.meaning.specs.Trees.{Table, Child, attributes, others, Equal, EqualLists}
+use Rattle.meaning.specs.Paths.{Class, isElement, isAttribute}
+use Rattle.meaning.specs.Trees.{Table, attributes, others, Equal, EqualLists}
 use Rattle.theory_paths.specs.Bools.{and-left, and-right, both, bool-eq, false-of, true-of}
 use Rattle.theory_trees.specs.Laws.{equal-leaves, equal-elements}
 use Rattle.theory_counter.specs.Doubled.{Drawn, Stands, Spot, Written}

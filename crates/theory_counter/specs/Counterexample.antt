@@ -1,7 +1,7 @@
 -- ARGUMENT §6: where the steps do not lead from t to q, the written tree is a tree, keeps every profile key and breaks the question. So the
 -- question is not implied.
-use Prim.Native.Nat.{ℕ, zero, suc, _≤_, _<_}
-use mathlib.Core.Path.{_≡_, refl, sym, ap, subst, _∙_}
+use Prim.Native.Nat.{ℕ, _<_}
+use mathlib.Core.Path.{refl, ap}
 use mathlib.Core.List.{List, [], _∷_, List·Memᴰ, List·Memᴰ·head, List·Memᴰ·tail}
 use native.Mathlib.Omega.{arith}
 use lib.Dec.{T}
@@ -9,9 +9,9 @@ use lib.ListN.{length}
 use Rattle.meaning.specs.Limits.{KeyLimits, fillerAttribute}
 use Rattle.meaning.specs.Lists.{Each, every}
 use Rattle.meaning.specs.Lists.Each.{end, also}
-use Rattle.meaning.specs.Paths.{Class, Label, Agrees, classOf}
+use Rattle.meaning.specs.Paths.{Label, Agrees, classOf}
 use Rattle.meaning.specs.Refusals.{isSymbol}
-use Rattle.meaning.specs.Trees.{Table, IsTree, tableOf}
+use Rattle.meaning.specs.Trees.{IsTree, tableOf}
 use Rattle.meaning.specs.Keys.{Key, Breaks, Keeps, Implied}
 use Rattle.meaning.specs.Pattern.{tOf, patternNodes, pattern, marked, IsU, writtenNodes}
 use Rattle.theory_paths.specs.Bools.{every-each, Each-of}
@@ -27,7 +27,7 @@ use Rattle.theory_paths.specs.Good.{
 use Rattle.theory_counter.specs.Doubled.{Drawn, Written}
 use Rattle.theory_counter.specs.Twins.{written-tree}
 use Rattle.theory_counter.specs.Ending.{Without}
-use Rattle.theory_counter.specs.Crossing.{KeyPath, KeyShape, breaks-crosses}
+use Rattle.theory_counter.specs.Crossing.{KeyShape, breaks-crosses}
 use Rattle.theory_counter.specs.Breaking.{asked-breaks}
 use Rattle.theory_counter.specs.PatternLaws.{pattern-length}
 use Rattle.theory_counter.specs.PatternTree.{pattern-drawn, pattern-asked}

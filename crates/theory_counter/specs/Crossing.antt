@@ -1,5 +1,5 @@
 -- ARGUMENT §6, "It keeps each profile key": a witness in the written tree is a step of the pattern from below the trunk up into it.
-use Prim.Native.Nat.{ℕ, zero, suc, _+_, _≤_, _<_}
+use Prim.Native.Nat.{ℕ, _≤_, _<_}
 use mathlib.Core.Path.{_≡_, refl, sym, ap, subst, _∙_}
 use mathlib.Core.Logic.{_≢_, _⊎_, inl, inr}
 use mathlib.Core.Bool.{Bool, true, false, true≢false, false≢true}
@@ -12,12 +12,12 @@ use Rattle.meaning.specs.Limits.{fillerAttribute}
 use Rattle.meaning.specs.Lists.{Each}
 use Rattle.meaning.specs.Lists.Each.{end, also}
 use Rattle.meaning.specs.Paths.{Class, member, simple}
-use Rattle.meaning.specs.Trees.{Table, Child, Down, here, step, Reached, Equal}
+use Rattle.meaning.specs.Trees.{Table, Down, here, step, Reached}
 use Rattle.meaning.specs.Keys.{Key, EqualPair, Breaks}
 use Rattle.theory_paths.specs.Words.{Word, member→word, word→member}
 use Rattle.theory_paths.specs.Simple.{simple-word}
 use Rattle.theory_trees.specs.Below.{rigid-node}
-use Rattle.theory_counter.specs.Doubled.{Drawn, Stands, Spot, Written}
+use Rattle.theory_counter.specs.Doubled.{Drawn, Stands, Written}
 use Rattle.theory_counter.specs.Climb.{Above, AboveFiller, own, above-own, above-filler}
 use Rattle.theory_counter.specs.Twins.{Twins, equal-twins}
 use Rattle.theory_counter.specs.Ending.{Without, word-shorter}

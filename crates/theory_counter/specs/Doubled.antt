@@ -1,15 +1,13 @@
 -- A pattern drawn as a table, and the tree that is written from it: every node of the tree is a pattern node or its filler attribute, of the
 -- first or of the second copy. What stands here of such a tree is all that the rest of ARGUMENT §6 uses.
-use Prim.Native.Nat.{ℕ, zero, suc, _+_, _≤_, _<_}
-use mathlib.Core.Path.{_≡_, refl, sym, ap, subst, _∙_}
-use mathlib.Core.Logic.{_≢_, _⊎_, inl, inr}
+use Prim.Native.Nat.{ℕ, _+_, _≤_, _<_}
+use mathlib.Core.Path.{_≡_}
+use mathlib.Core.Logic.{_≢_}
 use mathlib.Core.Bool.{Bool, true, false, cond, _&&_, not}
-use mathlib.Core.List.{List, [], _∷_, _++_}
-use native.Mathlib.Omega.{arith}
 use lib.Dec.{T}
 use Rattle.meaning.specs.Limits.{fillerAttribute, rootLabel}
 use Rattle.meaning.specs.Paths.{Class, attribute, isElement}
-use Rattle.meaning.specs.Trees.{Table, Child, Down, here, step}
+use Rattle.meaning.specs.Trees.{Table, Child, here}
 
 -- The pattern: a tree of labels other than the filler attribute's, in which what lies below a marked node is marked
 pub record Drawn (κ : ℕ → Class) (p : Table) (mark : ℕ → Bool) (u : ℕ) : Type 0 where

@@ -1,29 +1,13 @@
 -- The numbers of both copies: apart, in order, and on their side of the cut.
-use Prim.Native.Nat.{ℕ, zero, suc, _+_, _-_, _≤_, _<_}
-use mathlib.Core.Path.{_≡_, refl, sym, ap, subst, _∙_}
-use mathlib.Core.Logic.{_≢_, _⊎_, inl, inr}
-use mathlib.Core.Bool.{Bool, true, false, cond, _&&_}
+use Prim.Native.Nat.{ℕ, _+_, _≤_, _<_}
+use mathlib.Core.Path.{_≡_, refl, sym, _∙_}
+use mathlib.Core.Bool.{Bool, true, false}
 use native.Mathlib.Omega.{arith}
 use native.Mathlib.Decide.{decLt}
-use lib.Dec.{T}
-use Rattle.meaning.specs.Paths.{Class, isElement}
+use Rattle.meaning.specs.Paths.{Class}
 use Rattle.meaning.specs.Trees.{Table}
-use Rattle.theory_counter.specs.Doubled.{Stands, Spot}
-use Rattle.theory_counter.specs.Places.{
-  bit,
-  shift,
-  numberOf,
-  shift-trunk,
-  shift-below,
-  shift-first,
-  Placing,
-  place-rises,
-  place-above,
-  place-apart,
-  place-trunk,
-  place-below,
-  place-within,
-}
+use Rattle.theory_counter.specs.Doubled.{Stands}
+use Rattle.theory_counter.specs.Places.{bit, numberOf, shift-trunk, shift-below, shift-first, Placing, place-above, place-apart, place-below, place-within}
 
 module _ {κ : ℕ → Class} {p : Table} {u : ℕ} {place : ℕ → ℕ} {cut gap : ℕ} (P : Placing κ p u place cut gap) where
   -- In the trunk or the first copy the number is the place; in the second copy it is `gap` further on

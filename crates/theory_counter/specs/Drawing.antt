@@ -1,22 +1,21 @@
 -- The labels of the pattern: "each any-path drawn as one filler element", every other label the symbol itself, and every parent an element.
-use Prim.Native.Nat.{ℕ, zero, suc, _+_, _-_, _≤_, _<_}
-use mathlib.Core.Path.{_≡_, refl, sym, ap, ap₂, subst, _∙_}
-use mathlib.Core.Logic.{_≢_, _⊎_, inl, inr, ⊎-elim}
-use mathlib.Core.Bool.{Bool, true, false, cond, not, _||_}
-use mathlib.Core.List.{List, [], _∷_, _++_, map, List·Memᴰ, List·Memᴰ·head, List·Memᴰ·tail}
+use Prim.Native.Nat.{ℕ, zero, suc, _+_, _≤_, _<_}
+use mathlib.Core.Path.{_≡_, refl, sym, ap, subst}
+use mathlib.Core.Logic.{_⊎_, inl, inr, ⊎-elim}
+use mathlib.Core.Bool.{Bool, cond, _||_}
+use mathlib.Core.List.{List, [], _∷_, map, List·Memᴰ, List·Memᴰ·head, List·Memᴰ·tail}
 use native.Mathlib.Omega.{arith}
 use native.Mathlib.Decide.{decLt}
 use lib.Dec.{T, eqb, eqb→eq, eqb·suc-zero}
 use lib.ListN.{length, getD}
-use Rattle.meaning.specs.Limits.{textLabel, fillerElement, fillerAttribute, rootLabel}
+use Rattle.meaning.specs.Limits.{fillerElement}
 use Rattle.meaning.specs.Lists.{every, isEmpty}
-use Rattle.meaning.specs.Paths.{Class, Label, declared, isLabel, isElement, classOf, simple, valid, member}
+use Rattle.meaning.specs.Paths.{Label, declared, isLabel, isElement, classOf, valid, member}
 use Rattle.meaning.specs.Refusals.{isSymbol}
 use Rattle.meaning.specs.Trees.{Node, noNode}
 use Rattle.meaning.specs.Pattern.{drawn, run, branches}
 use Rattle.theory_paths.specs.Bools.{or-cases, or-left, or-right, every-head, every-tail}
 use Rattle.theory_paths.specs.Words.{Word, word→member}
-use Rattle.theory_paths.specs.Simple.{simple-head, simple-tail}
 use Rattle.theory_paths.specs.Valid.{mayStep, valid-first, valid-tail}
 use Rattle.theory_paths.specs.Good.{GoodLabels, filler-element, symbol-not-high}
 use Rattle.theory_counter.specs.Numbered.{Numbered, none, next, Is, numbered-append, numbered-left, numbered-right}
@@ -29,12 +28,6 @@ drawn-zero = refl
 drawn-suc : (a : ℕ) → drawn (suc a) ≡ suc a
 unfolding drawn
 drawn-suc a = ap (λ (b : Bool). cond b fillerElement (suc a)) (eqb·suc-zero a)
-
--- a simple path is drawn as itself
-pub drawn-simple : (p : List ℕ) → T (simple p) → map drawn p ≡ p
-drawn-simple [] h = refl
-drawn-simple (zero ∷ p) h = absurd (simple-head p h)
-drawn-simple (suc a ∷ p) h = ap₂ _∷_ (drawn-suc a) (drawn-simple p (simple-tail (suc a) p h))
 
 -- every path has its drawing as a word
 pub drawn-word : (p : List ℕ) → Word p (map drawn p)

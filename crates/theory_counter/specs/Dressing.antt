@@ -1,31 +1,19 @@
 -- Where the pattern's nodes stand once "each element is followed at once by a filler attribute".
-use Prim.Native.Nat.{ℕ, zero, suc, _+_, _-_, _≤_, _<_}
-use mathlib.Core.Path.{_≡_, refl, sym, ap, ap₂, subst, _∙_}
+use Prim.Native.Nat.{ℕ, zero, suc, _+_, _-_, _<_}
+use mathlib.Core.Path.{_≡_, refl, sym, ap, subst, _∙_}
 use mathlib.Core.Bool.{Bool, true, false, cond}
-use mathlib.Core.List.{List, [], _∷_, _++_, map, flatten}
+use mathlib.Core.List.{List, [], _∷_, _++_}
 use native.Mathlib.Omega.{arith}
 use lib.Dec.{T}
 use lib.ListN.{length, getD, take}
 use lib.Seq.{take-suc}
-use Rattle.meaning.specs.Lists.{numbers}
 use Rattle.meaning.specs.Paths.{Class, isElement}
-use Rattle.meaning.specs.Trees.{Table, Node, noNode, tableOf}
+use Rattle.meaning.specs.Trees.{Node, noNode, tableOf}
 use Rattle.meaning.specs.Keys.{Key}
-use Rattle.meaning.specs.Pattern.{
-  patternNodes,
-  pattern,
-  widths,
-  placeOf,
-  Dressed,
-  filler,
-  dressedNode,
-  dressed,
-  dressedNodes,
-  noDressed,
-}
+use Rattle.meaning.specs.Pattern.{patternNodes, pattern, widths, placeOf, filler, dressedNode, dressed, dressedNodes, noDressed}
 use Rattle.theory_counter.specs.Doubled.{Stands}
 use Rattle.theory_counter.specs.Places.{bit, Placing, steps-rise}
-use Rattle.theory_counter.specs.Flattened.{Counts, Found, flat-length, flat-at, flat-find}
+use Rattle.theory_counter.specs.Flattened.{Counts, flat-length, flat-at, flat-find}
 
 widths-append : (κ : ℕ → Class) (xs ys : List Node) → widths κ (xs ++ ys) ≡ widths κ xs + widths κ ys
 unfolding widths

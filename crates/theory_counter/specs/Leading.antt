@@ -1,16 +1,15 @@
 -- "u is the lowest node from q to t that still leads to q": so no profile key lets a node below the trunk step up into it.
 use Prim.Native.Nat.{ℕ, zero, suc, _+_, _-_, _≤_, _<_}
-use mathlib.Core.Path.{_≡_, refl, sym, ap, subst, _∙_}
-use mathlib.Core.List.{List, [], _∷_, List·Memᴰ}
+use mathlib.Core.Path.{_≡_, refl, subst}
+use mathlib.Core.List.{List, List·Memᴰ}
 use native.Mathlib.Omega.{arith}
 use native.Mathlib.Decide.{decLt}
-use lib.Dec.{T}
 use lib.ListN.{length, getD}
 use Rattle.meaning.specs.Lists.{Each}
 use Rattle.meaning.specs.Lists.Each.{end, also}
-use Rattle.meaning.specs.Trees.{Table, Node, noNode, tableOf, Child}
+use Rattle.meaning.specs.Trees.{noNode, tableOf, Child}
 use Rattle.meaning.specs.Keys.{Key}
-use Rattle.meaning.specs.Pattern.{qOf, tOf, patternNodes, pattern, marked, Lands, Step, toChild, byKey, Leads, onward, IsU}
+use Rattle.meaning.specs.Pattern.{qOf, tOf, patternNodes, pattern, marked, Lands, toChild, byKey, Leads, onward, IsU}
 use Rattle.theory_counter.specs.Crossing.{Marks, Crosses}
 use Rattle.theory_counter.specs.PatternLaws.{pattern-length, pattern-hangs}
 

@@ -1,27 +1,17 @@
 -- The pattern's runs and branches: their lengths, their parents, their last nodes.
 use Prim.Native.Nat.{ℕ, zero, suc, _+_, _-_, _≤_, _<_}
-use mathlib.Core.Path.{_≡_, refl, sym, ap, ap₂, subst, _∙_}
-use mathlib.Core.Logic.{_≢_, _⊎_, inl, inr, ⊎-elim}
-use mathlib.Core.Bool.{Bool, true, false, cond, not, _||_}
-use mathlib.Core.List.{List, [], _∷_, _++_, map, append-assoc}
+use mathlib.Core.Path.{_≡_, refl, sym, ap, ap₂, _∙_}
+use mathlib.Core.Logic.{_⊎_, inl, inr, ⊎-elim}
+use mathlib.Core.Bool.{cond}
+use mathlib.Core.List.{List, [], _∷_, _++_, map}
 use native.Mathlib.Omega.{arith}
 use lib.Dec.{T, eqb, eqb→eq}
-use lib.ListN.{length, getD, length-append}
-use Rattle.meaning.specs.Lists.{any, every, isEmpty}
-use Rattle.meaning.specs.Trees.{Table, Node, noNode, tableOf, Child, Down, here, step}
+use lib.ListN.{length, length-append}
+use Rattle.meaning.specs.Lists.{any, isEmpty}
+use Rattle.meaning.specs.Trees.{Node, tableOf, Down, here, step}
 use Rattle.meaning.specs.Pattern.{drawn, run, branches, ends}
-use Rattle.theory_paths.specs.Bools.{or-cases, and-left, and-right}
-use Rattle.theory_counter.specs.Numbered.{
-  Numbered,
-  none,
-  next,
-  Is,
-  numbered-append,
-  numbered-left,
-  numbered-right,
-  numbered-map,
-  numbered-both,
-}
+use Rattle.theory_paths.specs.Bools.{or-cases}
+use Rattle.theory_counter.specs.Numbered.{Numbered, none, next, Is, numbered-append, numbered-map, numbered-both}
 
 -- the symbols of a set of paths, counted
 unfoldable pub total : List (List ℕ) → ℕ

@@ -2,80 +2,27 @@
 -- it reaches q, t and marks.
 use Prim.Native.Nat.{ℕ, zero, suc, _+_, _-_, _≤_, _<_}
 use mathlib.Core.Path.{_≡_, refl, sym, ap, ap₂, subst, _∙_}
-use mathlib.Core.Logic.{_≢_, _⊎_, inl, inr, ⊎-elim}
-use mathlib.Core.Bool.{Bool, true, false, cond, not, _||_, true≢false}
-use mathlib.Core.List.{List, [], _∷_, _++_, map, append-assoc, List·Memᴰ, List·Memᴰ·head, List·Memᴰ·tail}
+use mathlib.Core.Logic.{⊎-elim}
+use mathlib.Core.Bool.{Bool, true, false, cond, true≢false}
+use mathlib.Core.List.{List, [], _∷_, _++_, map, List·Memᴰ}
 use native.Mathlib.Omega.{arith}
-use native.Mathlib.Decide.{decLt}
 use lib.Dec.{T, leb, eqb, leb→le, le→leb, eqb→eq, eqb-refl}
 use lib.ListN.{length, getD, length-append}
-use Rattle.meaning.specs.Limits.{KeyLimits, fillerElement, fillerAttribute, rootLabel, noNumber}
-use Rattle.meaning.specs.Lists.{Each, any, every, isEmpty}
+use Rattle.meaning.specs.Limits.{KeyLimits}
+use Rattle.meaning.specs.Lists.{Each, any, isEmpty}
 use Rattle.meaning.specs.Lists.Each.{end, also}
-use Rattle.meaning.specs.Paths.{Class, Label, isElement, classOf, simple, valid, member}
+use Rattle.meaning.specs.Paths.{Class, Label, isElement, classOf}
 use Rattle.meaning.specs.Refusals.{isSymbol}
-use Rattle.meaning.specs.Trees.{Table, Node, noNode, tableOf, Child, Down, Reached}
+use Rattle.meaning.specs.Trees.{Node, noNode, tableOf, Child}
 use Rattle.meaning.specs.Keys.{Key}
-use Rattle.meaning.specs.Pattern.{drawn, run, branches, qOf, tOf, patternNodes, pattern, ends, marked}
+use Rattle.meaning.specs.Pattern.{drawn, run, branches, tOf, patternNodes, pattern, ends, marked}
 use Rattle.theory_paths.specs.Bools.{or-cases, or-left, or-right, every-append}
 use Rattle.theory_paths.specs.Valid.{valid-before}
-use Rattle.theory_paths.specs.Good.{
-  GoodLabels,
-  GoodKey,
-  class-root,
-  class-filler-attribute,
-  context-symbols,
-  target-symbols,
-  key-path-symbols,
-  key-path-simple,
-  valid-chain,
-  valid-whole,
-  valid-key-path,
-}
-use Rattle.theory_counter.specs.Doubled.{Drawn}
+use Rattle.theory_paths.specs.Good.{GoodLabels, GoodKey, class-root, context-symbols, target-symbols, key-path-symbols, valid-chain, valid-whole, valid-key-path}
 use Rattle.theory_counter.specs.Crossing.{Marks}
-use Rattle.theory_counter.specs.Breaking.{Asked}
-use Rattle.theory_counter.specs.Numbered.{
-  Numbered,
-  none,
-  next,
-  Is,
-  numbered-append,
-  numbered-left,
-  numbered-right,
-  numbered-at,
-  numbered-map,
-  numbered-whole,
-}
-use Rattle.theory_counter.specs.Lines.{
-  total,
-  last,
-  run-length,
-  branches-length,
-  run-append,
-  last-chain,
-  last-end,
-  run-down,
-  Hangs,
-  chain-hangs,
-  branches-hang,
-  longs,
-  Bare,
-  ends-after,
-  ends-bare,
-}
-use Rattle.theory_counter.specs.Drawing.{
-  drawn-simple,
-  drawn-member,
-  Known,
-  run-known,
-  branches-known,
-  Inside,
-  IsElementAt,
-  run-inside,
-  last-element,
-  branches-inside,
-}
+use Rattle.theory_counter.specs.Numbered.{Numbered, next, Is, numbered-append, numbered-left, numbered-right, numbered-at, numbered-map, numbered-whole}
+use Rattle.theory_counter.specs.Lines.{total, last, run-length, branches-length, last-chain, last-end, run-down, Hangs, chain-hangs, branches-hang, longs, Bare, ends-after, ends-bare}
+use Rattle.theory_counter.specs.Drawing.{drawn-member, Known, run-known, branches-known, Inside, IsElementAt, run-inside, last-element, branches-inside}
 
 -- The nodes behind the root
 module _ (asked : Key) where

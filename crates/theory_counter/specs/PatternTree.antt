@@ -1,16 +1,14 @@
 -- The pattern of an accepted question is drawn as ARGUMENT §6 asks, and along C, T and the key paths it reaches q, t and marks.
-use Prim.Native.Nat.{ℕ, zero, suc, _+_, _-_, _≤_, _<_}
-use mathlib.Core.Path.{_≡_, refl, sym, ap, ap₂, subst, _∙_}
+use Prim.Native.Nat.{ℕ, zero, suc, _+_, _≤_, _<_}
+use mathlib.Core.Path.{_≡_, refl, ap₂, subst, _∙_}
 use mathlib.Core.Logic.{_≢_}
-use mathlib.Core.Bool.{Bool, true, false}
-use mathlib.Core.List.{List, [], _∷_, _++_, map}
+use mathlib.Core.List.{List, _++_, map}
 use native.Mathlib.Omega.{arith}
-use lib.Dec.{T}
-use lib.ListN.{length, getD, length-append}
-use Rattle.meaning.specs.Limits.{KeyLimits, fillerElement, fillerAttribute, rootLabel}
+use lib.ListN.{length, getD}
+use Rattle.meaning.specs.Limits.{KeyLimits, fillerAttribute}
 use Rattle.meaning.specs.Lists.{Each}
-use Rattle.meaning.specs.Paths.{Class, Label, classOf}
-use Rattle.meaning.specs.Trees.{Table, Node, noNode, tableOf, Child, Down, Reached}
+use Rattle.meaning.specs.Paths.{Label, classOf}
+use Rattle.meaning.specs.Trees.{Node, noNode, tableOf, Down, Reached}
 use Rattle.meaning.specs.Keys.{Key}
 use Rattle.meaning.specs.Pattern.{drawn, run, qOf, tOf, patternNodes, pattern, marked}
 use Rattle.theory_paths.specs.Good.{GoodLabels, GoodKey, class-filler-attribute}
@@ -18,8 +16,8 @@ use Rattle.theory_counter.specs.Doubled.{Drawn}
 use Rattle.theory_counter.specs.Crossing.{Marks}
 use Rattle.theory_counter.specs.Breaking.{Asked}
 use Rattle.theory_counter.specs.Numbered.{Numbered, Is, numbered-left, numbered-right}
-use Rattle.theory_counter.specs.Lines.{total, last, run-length, run-append, last-chain, run-down, Hangs}
-use Rattle.theory_counter.specs.Drawing.{drawn-member, Known, Inside}
+use Rattle.theory_counter.specs.Lines.{last, run-length, run-append, last-chain, run-down}
+use Rattle.theory_counter.specs.Drawing.{drawn-member, Inside}
 use Rattle.theory_counter.specs.PatternLaws.{
   chain,
   twigs,

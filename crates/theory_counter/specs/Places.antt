@@ -1,7 +1,6 @@
 -- The numbers of the written tree: where each pattern node and its filler stand, once in the trunk, twice below it.
 use Prim.Native.Nat.{ℕ, zero, suc, _+_, _-_, _≤_, _<_}
-use mathlib.Core.Path.{_≡_, refl, sym, ap, subst, _∙_}
-use mathlib.Core.Logic.{_≢_, _⊎_, inl, inr}
+use mathlib.Core.Path.{_≡_, refl, ap, _∙_}
 use mathlib.Core.Bool.{Bool, true, false, cond, _&&_, and-false, and-true}
 use native.Mathlib.Omega.{arith}
 use native.Mathlib.Decide.{decLt}
@@ -9,7 +8,7 @@ use lib.Dec.{T, ltb, ltb→lt, lt→ltb}
 use Rattle.meaning.specs.Paths.{Class, isElement}
 use Rattle.meaning.specs.Trees.{Table}
 use Rattle.theory_paths.specs.Bools.{true-of, false-of}
-use Rattle.theory_counter.specs.Doubled.{Stands, Spot}
+use Rattle.theory_counter.specs.Doubled.{Stands}
 
 unfoldable pub bit : Bool → ℕ
 bit false = 0

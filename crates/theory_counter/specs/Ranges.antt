@@ -43,6 +43,12 @@ keep-none f (suc count) start h =
     go true e q = absurd (false≢true (sym e))
     go false e q = q
 
+-- one more pair in front, where the test holds
+paired-front : (κ : ℕ → Class) (t : Table) (b : Bool) (x y : ℕ) (xs ys : List ℕ) → (T b → Equal κ t x y) → EqualLists κ t xs ys
+    → EqualLists κ t (cond b (x ∷ xs) xs) (cond b (y ∷ ys) ys)
+paired-front κ t true x y xs ys e r = paired (e tt) r
+paired-front κ t false x y xs ys e r = r
+
 -- two ranges, `gap` apart, in which the tests agree
 pub paired-ranges : (κ : ℕ → Class) (t : Table) (f g : ℕ → Bool) (gap count start later : ℕ) → later ≡ start + gap
     → ((n : ℕ) → start ≤ n → n < start + count → f n ≡ g (n + gap))
@@ -51,39 +57,14 @@ pub paired-ranges : (κ : ℕ → Class) (t : Table) (f g : ℕ → Bool) (gap c
 unfolding keep numbers
 paired-ranges κ t f g gap zero start later e same equal = ended
 paired-ranges κ t f g gap (suc count) start later e same equal =
-    go (f start) refl (g later) (same start (omega arith) (omega arith) ∙ ap g (sym e))
+    let xs = keep f (numbers count (suc start)) in
+    let ys = keep g (numbers count (suc later)) in
+    subst (λ (b : Bool). EqualLists κ t (cond (f start) (start ∷ xs) xs) (cond b (later ∷ ys) ys))
+    (same start (omega arith) (omega arith) ∙ ap g (sym e))
+    (paired-front κ t (f start) start later xs ys
+    (λ h. subst (λ (n : ℕ). Equal κ t start n) (sym e) (equal start (omega arith) (omega arith) h))
     (paired-ranges κ t f g gap count (suc start) (suc later) (omega arith) (λ n l r. same n (omega arith) (omega arith))
-    (λ n l r. equal n (omega arith) (omega arith)))
-  where
-    go : (b : Bool) → f start ≡ b → (c : Bool) → f start ≡ c
-        → EqualLists κ t (keep f (numbers count (suc start))) (keep g (numbers count (suc later)))
-        → EqualLists κ t (cond (f start) (start ∷ keep f (numbers count (suc start))) (keep f (numbers count (suc start))))
-        (cond c (later ∷ keep g (numbers count (suc later))) (keep g (numbers count (suc later))))
-    go true p c q rest =
-        subst
-        (λ (x : Bool).
-        EqualLists κ t (cond (f start) (start ∷ keep f (numbers count (suc start))) (keep f (numbers count (suc start))))
-        (cond x (later ∷ keep g (numbers count (suc later))) (keep g (numbers count (suc later)))))
-        (sym p ∙ q)
-        (subst
-        (λ (x : Bool).
-        EqualLists κ t (cond x (start ∷ keep f (numbers count (suc start))) (keep f (numbers count (suc start))))
-        (later ∷ keep g (numbers count (suc later))))
-        (sym p)
-        (paired
-        (subst (λ (x : ℕ). Equal κ t start x) (sym e) (equal start (omega arith) (omega arith) (subst (λ (x : Bool). T x) (sym p) tt)))
-        rest))
-    go false p c q rest =
-        subst
-        (λ (x : Bool).
-        EqualLists κ t (cond (f start) (start ∷ keep f (numbers count (suc start))) (keep f (numbers count (suc start))))
-        (cond x (later ∷ keep g (numbers count (suc later))) (keep g (numbers count (suc later)))))
-        (sym p ∙ q)
-        (subst
-        (λ (x : Bool).
-        EqualLists κ t (cond x (start ∷ keep f (numbers count (suc start))) (keep f (numbers count (suc start))))
-        (keep g (numbers count (suc later))))
-        (sym p) rest)
+    (λ n l r. equal n (omega arith) (omega arith))))
 
 -- a range of three parts: before, a part, and the part behind it
 pub keep-three : (f : ℕ → Bool) (cut gap : ℕ) → 0 < cut

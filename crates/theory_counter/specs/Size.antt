@@ -1,11 +1,11 @@
 -- How many nodes the written tree has: at most 178 (request 8), so "over 256 nodes" never happens.
 use Prim.Native.Nat.{ℕ, zero, suc, _+_, _-_, _*_, _≤_, _<_}
-use mathlib.Core.Path.{_≡_, refl, sym, ap, subst, _∙_}
+use mathlib.Core.Path.{_≡_, refl, ap, subst}
 use mathlib.Core.Bool.{Bool, true, false}
 use mathlib.Core.List.{List, [], _∷_, List·Memᴰ, List·Memᴰ·head, List·Memᴰ·tail}
 use native.Mathlib.Omega.{arith}
 use lib.ListN.{length}
-use Rattle.meaning.specs.Limits.{KeyLimits, inProfile}
+use Rattle.meaning.specs.Limits.{inProfile}
 use Rattle.meaning.specs.Paths.{Class, Label, isElement}
 use Rattle.meaning.specs.Trees.{Table, tableOf}
 use Rattle.meaning.specs.Keys.{Key}
@@ -14,7 +14,7 @@ use Rattle.theory_paths.specs.Good.{GoodKey, context-length, target-length, key
 use Rattle.theory_counter.specs.Places.{bit, Placing}
 use Rattle.theory_counter.specs.Lines.{total}
 use Rattle.theory_counter.specs.PatternLaws.{pattern-length}
-use Rattle.theory_counter.specs.WrittenLaws.{gapOf, placing, written-length}
+use Rattle.theory_counter.specs.WrittenLaws.{placing, written-length}
 
 bit-most : (b : Bool) → bit b ≤ 1
 unfolding bit

@@ -1,17 +1,16 @@
 -- The written tree is a tree, and in it two different value-equal nodes are the twins of one marked pattern node, or of its filler.
-use Prim.Native.Nat.{ℕ, zero, suc, _+_, _≤_, _<_}
+use Prim.Native.Nat.{ℕ, zero, suc, _<_}
 use mathlib.Core.Path.{_≡_, refl, sym, ap, subst, _∙_}
-use mathlib.Core.Logic.{_≢_, _⊎_, inl, inr}
-use mathlib.Core.Bool.{Bool, true, false, cond, _&&_, not}
-use mathlib.Core.List.{List, [], _∷_, _++_}
+use mathlib.Core.Logic.{_≢_}
+use mathlib.Core.Bool.{Bool, true, false, _&&_, not}
 use native.Mathlib.Omega.{arith}
-use lib.Dec.{T, T-not}
-use Rattle.meaning.specs.Limits.{fillerAttribute, rootLabel}
+use lib.Dec.{T}
+use Rattle.meaning.specs.Limits.{fillerAttribute}
 use Rattle.meaning.specs.Paths.{Class, element, attribute, text, isElement}
-use Rattle.meaning.specs.Trees.{Table, IsTree, Placed, Child, Down, here, step, Equal, leaves, elements}
-use Rattle.theory_trees.specs.Laws.{ChildMate, equal-label, equal-value, equal-child}
+use Rattle.meaning.specs.Trees.{Table, IsTree, Placed, Child, here, Equal, leaves, elements}
+use Rattle.theory_trees.specs.Laws.{equal-label, equal-value, equal-child}
 use Rattle.theory_counter.specs.Doubled.{Drawn, Stands, Spot, Written}
-use Rattle.theory_counter.specs.Climb.{own, child-own, child-filler, positive}
+use Rattle.theory_counter.specs.Climb.{own, child-filler}
 
 pub class-element : (k : Class) → T (isElement k) → k ≡ element
 unfolding isElement

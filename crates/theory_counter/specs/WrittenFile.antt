@@ -1,45 +1,29 @@
 -- The written tree is an accepted tree file, and its bytes say exactly its nodes.
-use Prim.Native.Nat.{ℕ, zero, suc, _+_, _-_, _≤_, _<_}
+use Prim.Native.Nat.{ℕ, zero, suc, _≤_, _<_}
 use mathlib.Core.Path.{_≡_, refl, sym, ap, subst, _∙_}
 use mathlib.Core.Logic.{⊎-elim}
-use mathlib.Core.Bool.{Bool, true, false, cond, not, _&&_, _||_}
+use mathlib.Core.Bool.{Bool, true, false, not, _&&_, _||_}
 use mathlib.Core.List.{List, [], _∷_}
 use native.Mathlib.Omega.{arith}
 use native.Mathlib.Nat.{le-of-lt}
-use lib.Dec.{T, eqb, eqb-refl}
+use lib.Dec.{T, eqb}
 use lib.ListN.{length, getD}
-use Rattle.meaning.specs.Limits.{KeyLimits, inProfile, fillerElement, fillerAttribute, rootLabel, noNumber}
+use Rattle.meaning.specs.Limits.{KeyLimits, inProfile, fillerAttribute, rootLabel, noNumber}
 use Rattle.meaning.specs.Lists.{Each}
 use Rattle.meaning.specs.Lists.Each.{end, also}
 use Rattle.meaning.specs.Paths.{Class, Label, declared, isLabel, element, isElement, classOf}
-use Rattle.meaning.specs.Refusals.{Refusal, sound, goodRoot, treeRefusal, nodesIn}
-use Rattle.meaning.specs.Trees.{Table, Node, noNode, IsTree, tableOf}
+use Rattle.meaning.specs.Refusals.{sound, goodRoot, treeRefusal, nodesIn}
+use Rattle.meaning.specs.Trees.{noNode, tableOf}
 use Rattle.meaning.specs.Keys.{Key}
-use Rattle.meaning.specs.Pattern.{
-  qOf,
-  tOf,
-  patternNodes,
-  pattern,
-  marked,
-  placeOf,
-  Dressed,
-  dressedNodes,
-  noDressed,
-  writtenNode,
-  writtenNodes,
-  writtenTree,
-}
-use Rattle.theory_paths.specs.Bools.{true-of, or-left, or-right}
+use Rattle.meaning.specs.Pattern.{qOf, tOf, patternNodes, writtenNodes, writtenTree}
+use Rattle.theory_paths.specs.Bools.{true-of, or-right}
 use Rattle.theory_paths.specs.Good.{GoodLabels, GoodKey, class-root}
 use Rattle.theory_records.specs.TreeFiles.{NodeBelow, NodesGood}
 use Rattle.theory_records.specs.Written.{NodeFits}
 use Rattle.theory_records.specs.WrittenInputs.{tree-written-sound, nodes-in-written}
-use Rattle.theory_counter.specs.Doubled.{Drawn, Stands, Spot, Written}
-use Rattle.theory_counter.specs.Places.{bit, shift}
-use Rattle.theory_counter.specs.Drawing.{Known}
 use Rattle.theory_counter.specs.PatternLaws.{pattern-length, pattern-known}
 use Rattle.theory_counter.specs.WrittenTable.{element-zero, value-within, root-parent, label-of}
-use Rattle.theory_counter.specs.Counterexample.{counter-drawn, counter-written, counter-tree}
+use Rattle.theory_counter.specs.Counterexample.{counter-tree}
 use Rattle.theory_counter.specs.Size.{written-most}
 
 -- a law of each index is one of each member

@@ -1,49 +1,22 @@
 -- The written nodes, read at their numbers: label, parent and value of each node of the trunk and of both copies.
-use Prim.Native.Nat.{ℕ, zero, suc, _+_, _-_, _≤_, _<_}
-use mathlib.Core.Path.{_≡_, refl, sym, ap, ap₂, subst, _∙_}
-use mathlib.Core.Logic.{_≢_}
-use mathlib.Core.Bool.{Bool, true, false, cond, _&&_, not}
-use mathlib.Core.List.{List, [], _∷_, _++_, map, flatten}
+use Prim.Native.Nat.{ℕ, suc, _+_, _-_, _≤_, _<_}
+use mathlib.Core.Path.{_≡_, refl, sym, ap, ap₂, _∙_}
+use mathlib.Core.Bool.{Bool, true, false}
+use mathlib.Core.List.{List, _++_, map}
 use native.Mathlib.Omega.{arith}
 use native.Mathlib.Decide.{decLt}
-use lib.Dec.{T, eqb, ltb, eqb→eq, ltb→lt, lt→ltb}
 use lib.ListN.{length, getD, length-append, length-map, List·getD-append}
 use lib.Seq.{getD-append-add}
-use Rattle.meaning.specs.Limits.{fillerAttribute, noNumber}
 use Rattle.meaning.specs.Lists.{numbers}
-use Rattle.meaning.specs.Paths.{Class, isElement}
-use Rattle.meaning.specs.Trees.{Table, Node, noNode, tableOf}
+use Rattle.meaning.specs.Paths.{Class}
+use Rattle.meaning.specs.Trees.{Node, noNode, tableOf}
 use Rattle.meaning.specs.Keys.{Key}
-use Rattle.meaning.specs.Pattern.{
-  patternNodes,
-  pattern,
-  marked,
-  placeOf,
-  Dressed,
-  filler,
-  dressedNode,
-  dressedNodes,
-  noDressed,
-  writtenNode,
-  writtenNodes,
-}
-use Rattle.theory_paths.specs.Bools.{true-of, false-of}
-use Rattle.theory_counter.specs.Doubled.{Stands, Spot}
-use Rattle.theory_counter.specs.Places.{
-  bit,
-  shift,
-  numberOf,
-  shift-trunk,
-  shift-below,
-  Placing,
-  place-rises,
-  place-trunk,
-  place-below,
-  place-within,
-}
+use Rattle.meaning.specs.Pattern.{patternNodes, pattern, placeOf, dressedNodes, writtenNode, writtenNodes}
+use Rattle.theory_counter.specs.Doubled.{Stands}
+use Rattle.theory_counter.specs.Places.{bit, shift, numberOf, shift-trunk, shift-below, Placing, place-below, place-within}
 use Rattle.theory_counter.specs.Doubling.{number-trunk, number-first, number-second}
 use Rattle.theory_counter.specs.Flattened.{numbers-length, map-numbers-at}
-use Rattle.theory_counter.specs.Dressing.{dressed-all, dressed-at, dressed-find, dressed-placing, DressedSpot}
+use Rattle.theory_counter.specs.Dressing.{dressed-all, dressed-placing}
 
 -- the length of one copy
 unfoldable pub gapOf : (ℕ → Class) → Key → ℕ → ℕ

@@ -1,16 +1,15 @@
 -- The table that the written nodes say is the doubled pattern of `Doubled`.
 use Prim.Native.Nat.{ℕ, zero, suc, _+_, _-_, _≤_, _<_}
-use mathlib.Core.Path.{_≡_, refl, sym, ap, ap₂, subst, _∙_}
-use mathlib.Core.Logic.{_≢_, _⊎_, inl, inr}
+use mathlib.Core.Path.{_≡_, refl, sym, ap, subst, _∙_}
+use mathlib.Core.Logic.{_⊎_, inl, inr}
 use mathlib.Core.Bool.{Bool, true, false, cond, _&&_, not, and-true, and-false}
-use mathlib.Core.List.{List, [], _∷_, _++_}
 use native.Mathlib.Omega.{arith}
 use native.Mathlib.Decide.{decLt}
 use lib.Dec.{T, eqb, ltb, eqb→eq, ltb→lt, lt→ltb}
 use lib.ListN.{length, getD}
 use Rattle.meaning.specs.Limits.{fillerAttribute, noNumber}
 use Rattle.meaning.specs.Paths.{Class, isElement}
-use Rattle.meaning.specs.Trees.{Table, Node, noNode, tableOf}
+use Rattle.meaning.specs.Trees.{Node, noNode, tableOf}
 use Rattle.meaning.specs.Keys.{Key}
 use Rattle.meaning.specs.Pattern.{
   patternNodes,
@@ -27,18 +26,7 @@ use Rattle.meaning.specs.Pattern.{
 }
 use Rattle.theory_paths.specs.Bools.{true-of, false-of}
 use Rattle.theory_counter.specs.Doubled.{Drawn, Stands, Spot, Written}
-use Rattle.theory_counter.specs.Places.{
-  bit,
-  shift,
-  numberOf,
-  shift-trunk,
-  shift-below,
-  Placing,
-  place-above,
-  place-trunk,
-  place-below,
-  place-within,
-}
+use Rattle.theory_counter.specs.Places.{bit, shift, numberOf, shift-below, Placing, place-above, place-trunk, place-below, place-within}
 use Rattle.theory_counter.specs.Doubling.{
   number-trunk,
   number-first,

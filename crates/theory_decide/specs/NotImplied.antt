@@ -2,15 +2,15 @@
 -- has over 256 nodes.
 use Prim.Native.Nat.{ℕ, _*_, _≤_, _<_}
 use mathlib.Core.Path.{_≡_, refl, sym, ap, subst}
-use mathlib.Core.List.{List, [], _∷_}
+use mathlib.Core.List.{List, []}
 use native.Mathlib.Omega.{arith}
 use lib.ListN.{length}
 use Rattle.meaning.specs.Limits.{inProfile}
 use Rattle.meaning.specs.Lists.{Each}
 use Rattle.meaning.specs.Paths.{classOf}
-use Rattle.meaning.specs.Trees.{Node, tableOf}
-use Rattle.meaning.specs.Keys.{Key, Breaks, Keeps}
-use Rattle.meaning.specs.Refusals.{Refusal, profileRefusal, questionRefusal, questionIn, treeRefusal}
+use Rattle.meaning.specs.Trees.{tableOf}
+use Rattle.meaning.specs.Keys.{Breaks, Keeps}
+use Rattle.meaning.specs.Refusals.{Refusal, profileRefusal, questionRefusal, questionIn}
 use Rattle.meaning.specs.Pattern.{tOf, IsU, writtenNodes, writtenTree}
 use Rattle.meaning.specs.Operations
 use Rattle.meaning.specs.Operations.{
