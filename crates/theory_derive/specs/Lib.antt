@@ -15,3 +15,4 @@ pub mod FollowBelow
 pub mod Accept
 pub mod Bytes
 pub mod Numbers
+pub mod Places

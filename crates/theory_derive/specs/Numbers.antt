@@ -56,7 +56,7 @@ unfolding over
 over-first a m zero h = refl
 over-first a m (suc r) h = absurd (omega arith)
 
-nodeOf : ℕ → ℕ → Node
+unfoldable pub nodeOf : ℕ → ℕ → Node
 nodeOf parent s = record { parent = parent; label = drawn s; value = 0 }
 
 run-length : (a n : ℕ) (p : List ℕ) → length (run a n p) ≡ length p
@@ -137,11 +137,11 @@ module _ (asked : Key) where
       ap suc (length-append (run 0 1 (asked .context ++ asked .target)) (branches (tOf asked) (suc (tOf asked)) (asked .paths))
       ∙ ap₂ (λ (a b : ℕ). a + b) (run-length 0 1 (asked .context ++ asked .target) ∙ chain-length asked) (branches-length (tOf asked) (suc (tOf asked)) (asked .paths)))
 
-  node : ℕ → Node
+  unfoldable pub node : ℕ → Node
   node x = getD (patternNodes asked) x noNode
 
   -- the spot below (j, k) on line j is the node that has (j, k) as its parent and the line's symbol as its label
-  spot-node : (j k : ℕ) → j < length (asked .paths) → k < length (lineOf asked j)
+  pub spot-node : (j k : ℕ) → j < length (asked .paths) → k < length (lineOf asked j)
       → node (spotNode asked j (suc k)) ≡ nodeOf (spotNode asked j k) (getD (lineOf asked j) k 0)
   unfolding node patternNodes lineOf branchOf chainOf
   spot-node j k b h = go (less-or k (tOf asked))
@@ -194,7 +194,7 @@ module _ (asked : Key) where
           ∙ ap₂ nodeOf (above l)
             (sym (ap (λ m. getD (C ++ P) m 0) (let z : k ≡ length C + (k - n) = omega (arith, chain-symbols) in z) ∙ getD-append-add C P (k - n) 0))
 
-  spot-inside : (j k : ℕ) → j < length (asked .paths) → k ≤ length (lineOf asked j) → spotNode asked j k < pattern asked .size
+  pub spot-inside : (j k : ℕ) → j < length (asked .paths) → k ≤ length (lineOf asked j) → spotNode asked j k < pattern asked .size
   unfolding branchOf
   spot-inside j k b h = go (less-or (tOf asked) k)
     where
