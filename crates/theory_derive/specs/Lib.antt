@@ -16,3 +16,4 @@ pub mod Accept
 pub mod Bytes
 pub mod Numbers
 pub mod Places
+pub mod Marks

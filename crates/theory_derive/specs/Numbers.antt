@@ -186,13 +186,13 @@ module _ (asked : Key) where
           ∙ List·getD-append chain rest noNode k (omega (arith, chain-nodes))
           ∙ run-node 0 1 C k (omega (arith, chain-symbols))
           ∙ ap₂ nodeOf (over-next 0 k ∙ (let z : 0 + k ≡ k = omega arith in z) ∙ sym (spot-chain asked j k (omega arith)))
-            (sym (List·getD-append C P 0 k (omega (arith, chain-symbols))))
+          (sym (List·getD-append C P 0 k (omega (arith, chain-symbols))))
       go (inr l) =
           ap node (spot-branch asked j (suc k) (omega arith) ∙ (let z : suc k + off ≡ suc (length chain + (off + (k - n))) = omega (arith, chain-nodes) in z))
           ∙ getD-append-add chain rest (off + (k - n)) noNode
           ∙ branches-node n (suc n) (asked .paths) j (k - n) b (omega (arith, long))
           ∙ ap₂ nodeOf (above l)
-            (sym (ap (λ m. getD (C ++ P) m 0) (let z : k ≡ length C + (k - n) = omega (arith, chain-symbols) in z) ∙ getD-append-add C P (k - n) 0))
+          (sym (ap (λ m. getD (C ++ P) m 0) (let z : k ≡ length C + (k - n) = omega (arith, chain-symbols) in z) ∙ getD-append-add C P (k - n) 0))
 
   pub spot-inside : (j k : ℕ) → j < length (asked .paths) → k ≤ length (lineOf asked j) → spotNode asked j k < pattern asked .size
   unfolding branchOf

@@ -6,7 +6,7 @@ use mathlib.Core.Logic.{_⊎_, inl, inr}
 use mathlib.Core.Bool.{Bool, true, false, cond}
 use mathlib.Core.List.{List, [], _∷_, _++_, map}
 use native.Mathlib.Omega.{arith}
-use lib.Dec.{T, leb}
+use lib.Dec.{T, leb, eqb·suc-zero}
 use lib.ListN.{length, getD, take, drop, length-append}
 use lib.Seq.{slice-empty, slice-cons}
 use Rattle.meaning.specs.Trees.{Table, Node, noNode, tableOf, Child, Down, here, step}
@@ -100,3 +100,63 @@ module _ (asked : Key) where
       go : (tOf asked < k) ⊎ (k ≤ tOf asked) → spotNode asked i k ≡ spotNode asked j k
       go (inl h) = ap (λ b. spotNode asked b k) (f h)
       go (inr h) = spot-chain asked i k h ∙ sym (spot-chain asked j k h)
+
+-- ---- runs of labels
+
+pub fill-cons : (s : ℕ) (P : List ℕ) → fill (s ∷ P) ≡ drawn s ∷ fill P
+unfolding fill drawn
+fill-cons zero P = refl
+fill-cons (suc a) P = ap (λ (b : Bool). cond b 201 (suc a) ∷ fill P) (sym (eqb·suc-zero a))
+
+part-empty : (k l : ℕ) (line : List ℕ) → k ≡ l → part k l line ≡ []
+unfolding part
+part-empty k l line e = subst (λ m. drop k (take m line) ≡ []) e (slice-empty k line)
+
+part-cons : (i k : ℕ) (line : List ℕ) → i < k → k ≤ length line → fill (part i k line) ≡ drawn (getD line i 0) ∷ fill (part (suc i) k line)
+unfolding part
+part-cons i k line h l = ap fill (slice-cons i k line 0 h l) ∙ fill-cons (getD line i 0) (drop (suc i) (take k line))
+
+-- where a run that ends at a spot begins
+pub record Begins (asked : Key) (j k v : ℕ) (run : List ℕ) : Type 0 where
+  pub top : ℕ
+  pub above : top ≤ k
+  pub place : v ≡ spotNode asked j top
+  pub reads : run ≡ fill (part top k (lineOf asked j))
+
+module _ (asked : Key) where
+  pub spot-down : (d i j k : ℕ) → k ≡ i + d → IsSpot asked j k → Down (pattern asked) (spotNode asked j i) (fill (part i k (lineOf asked j))) (spotNode asked j k)
+  unfolding fill
+  spot-down zero i j k e s =
+      subst (λ r. Down (pattern asked) (spotNode asked j i) r (spotNode asked j k))
+      (ap fill (sym (part-empty i k (lineOf asked j) (let z : i ≡ k = omega arith in z))))
+      (here (ap (spotNode asked j) (let z : i ≡ k = omega arith in z)))
+  spot-down (suc d) i j k e s =
+      subst (λ r. Down (pattern asked) (spotNode asked j i) r (spotNode asked j k)) (sym (part-cons i k (lineOf asked j) (omega arith) (s .onLine)))
+      (step (spotNode asked j (suc i)) (spot-child asked j i (spot-above asked j (suc i) k (omega arith) s))
+      (spot-label asked j i (spot-above asked j (suc i) k (omega arith) s)) (spot-down d (suc i) j k (omega arith) s))
+
+  pub down-spot : (j k : ℕ) → IsSpot asked j k → {v w : ℕ} {run : List ℕ} → Down (pattern asked) v run w → w ≡ spotNode asked j k → Begins asked j k v run
+  unfolding fill
+  down-spot j k s (here p) e =
+      record { top = k; above = omega arith; place = p ∙ e; reads = ap fill (sym (part-empty k k (lineOf asked j) refl)) }
+  down-spot j k s (step {v} {l} {ls} x c q d) e = go (down-spot j k s d e)
+    where
+      at : (i : ℕ) → i ≤ k → x ≡ spotNode asked j i → ls ≡ fill (part i k (lineOf asked j)) → Begins asked j k v (l ∷ ls)
+      at zero b on reads = absurd (let z : x ≡ 0 = on ∙ spot-chain asked j 0 (omega arith) in omega (arith, c .notRoot))
+      at (suc i) b on reads =
+          let t = spot-above asked j (suc i) k b s in
+          record {
+            top = i;
+            above = omega arith;
+            place = sym (c .below) ∙ ap (pattern asked .parent) on ∙ spot-parent asked j i t;
+            reads = ap₂ {C = List ℕ} (λ a r. a ∷ r) (sym q ∙ ap (pattern asked .label) on ∙ spot-label asked j i t) reads
+                ∙ sym (part-cons i k (lineOf asked j) b (s .onLine));
+          }
+
+      go : Begins asked j k x ls → Begins asked j k v (l ∷ ls)
+      go r = at (r .top) (r .above) (r .place) (r .reads)
+
+  -- a run stays inside the table
+  pub down-inside : {v w : ℕ} {run : List ℕ} → Down (pattern asked) v run w → v < pattern asked .size → w < pattern asked .size
+  down-inside (here p) h = subst (λ m. m < pattern asked .size) p h
+  down-inside (step x c q d) h = down-inside d (c .inside)
