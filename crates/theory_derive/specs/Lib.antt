@@ -17,3 +17,4 @@ pub mod Bytes
 pub mod Numbers
 pub mod Places
 pub mod Marks
+pub mod Steps
