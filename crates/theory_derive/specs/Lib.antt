@@ -18,3 +18,4 @@ pub mod Numbers
 pub mod Places
 pub mod Marks
 pub mod Steps
+pub mod Lowest
