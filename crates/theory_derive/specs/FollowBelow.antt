@@ -1,20 +1,19 @@
 -- ARGUMENT 5, "k > n": the lines of a step from inside a branch follow.
-use Prim.Native.Nat.{ℕ, zero, suc, _+_, _-_, _≤_, _<_}
+use Prim.Native.Nat.{ℕ, _+_, _≤_, _<_}
 use mathlib.Core.Path.{_≡_, refl, sym, ap, subst, _∙_}
-use mathlib.Core.Bool.{Bool, true, false, cond}
+use mathlib.Core.Bool.{true, false}
 use mathlib.Core.List.{List, [], _∷_, _++_, List·Memᴰ, List·Memᴰ·head, List·Memᴰ·tail}
 use native.Mathlib.Omega.{arith}
-use lib.Dec.{T}
 use lib.ListN.{length, getElem?}
 use mathlib.Core.Option.{some}
-use Rattle.meaning.specs.Limits.{inProfile, inProof}
+use Rattle.meaning.specs.Limits.{inProfile}
 use Rattle.meaning.specs.Lists.{Each, end, also, ascending}
 use Rattle.meaning.specs.Paths.{Label, norm, join}
 use Rattle.meaning.specs.Keys.{Key}
 use Rattle.meaning.specs.Rules.{rule2, rule3, rule4, rule8, withEmpty}
 use Rattle.meaning.specs.Pattern.{tOf}
 use Rattle.theory_paths.specs.Bools.{Each-of}
-use Rattle.theory_paths.specs.Good.{GoodKey, paths-some, paths-within, paths-ascending}
+use Rattle.theory_paths.specs.Good.{GoodKey, paths-within, paths-ascending}
 use Rattle.theory_derive.specs.Parts.{join-norm}
 use Rattle.theory_derive.specs.Sets.{insert, insert-self, insert-old, insert-length, insert-ascending, ascending-empty}
 use Rattle.theory_derive.specs.Spots.{chainOf, branchOf, holdsEmpty, FiresBy}

@@ -19,3 +19,4 @@ pub mod Places
 pub mod Marks
 pub mod Steps
 pub mod Lowest
+pub mod Ranges

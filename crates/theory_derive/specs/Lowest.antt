@@ -1,24 +1,23 @@
 -- ARGUMENT 4: the loop's final u is the u of 01, and where it is t the steps lead from t to q.
 use Prim.Native.Nat.{ℕ, zero, suc, _+_, _-_, _≤_, _<_, min}
-use mathlib.Core.Path.{_≡_, refl, sym, ap, subst, subst₂, _∙_}
+use mathlib.Core.Path.{_≡_, refl, sym, ap, subst, _∙_}
 use mathlib.Core.Logic.{_⊎_, inl, inr, ⊎-elim}
-use mathlib.Core.List.{List, [], _∷_, List·Memᴰ, List·Memᴰ·head, List·Memᴰ·tail}
+use mathlib.Core.List.{List, List·Memᴰ, List·Memᴰ·head, List·Memᴰ·tail}
 use mathlib.Core.Option.{some}
 use native.Mathlib.Omega.{arith}
 use lib.ListN.{length, getElem?}
 use Rattle.meaning.specs.Limits.{inProfile}
 use Rattle.meaning.specs.Lists.{Each}
 use Rattle.meaning.specs.Paths.{Label}
-use Rattle.meaning.specs.Trees.{Child}
 use Rattle.meaning.specs.Keys.{Key}
 use Rattle.meaning.specs.Pattern.{pattern, tOf, qOf, Step, toChild, byKey, Leads, arrived, onward, IsU}
 use Rattle.theory_paths.specs.Bools.{Each-at}
 use Rattle.theory_paths.specs.Good.{GoodLabels, GoodKey, paths-some}
 use Rattle.theory_derive.specs.Logic.{less-or}
-use Rattle.theory_derive.specs.Spots.{Taken, lineOf, FiresBy, Fires, Chain, begun, taken}
+use Rattle.theory_derive.specs.Spots.{Taken, Fires, Chain, begun, taken}
 use Rattle.theory_derive.specs.Lines.{line-length}
 use Rattle.theory_derive.specs.Numbers.{spotNode, spot-chain, spot-branch}
-use Rattle.theory_derive.specs.Places.{IsSpot, Place, spot-child, spot-parent, spot-above, place-of, spot-once, spot-shared}
+use Rattle.theory_derive.specs.Places.{IsSpot, Place, spot-child, spot-parent, spot-above, place-of, spot-once}
 use Rattle.theory_derive.specs.Steps.{OnLines, fires-step, on-lines}
 use Rattle.theory_derive.specs.Accept.{turns}
 

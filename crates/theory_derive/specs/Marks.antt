@@ -1,16 +1,16 @@
 -- ARGUMENT 4: "(j, k) is marked: k = |line j|, or S holds e and k ≥ n" says the same of the spot as 01's marks say of its node.
 use Prim.Native.Nat.{ℕ, zero, suc, _+_, _-_, _≤_, _<_}
-use mathlib.Core.Path.{_≡_, refl, sym, ap, ap₂, subst, _∙_}
-use mathlib.Core.Logic.{_⊎_, inl, inr, ⊎-elim}
-use mathlib.Core.Bool.{Bool, true, false, cond, _&&_, _||_}
-use mathlib.Core.List.{List, [], _∷_, _++_, List·Memᴰ, List·Memᴰ·head, List·Memᴰ·tail}
+use mathlib.Core.Path.{_≡_, refl, sym, ap, subst, _∙_}
+use mathlib.Core.Logic.{⊎-elim}
+use mathlib.Core.Bool.{Bool, true, false}
+use mathlib.Core.List.{List, [], _∷_}
 use native.Mathlib.Omega.{arith}
-use lib.Dec.{T, leb, eqb, eqb→eq, leb→le, le→leb}
+use lib.Dec.{T, eqb, eqb→eq, leb→le, le→leb}
 use lib.ListN.{length, getD}
 use Rattle.meaning.specs.Lists.{any, isEmpty}
 use Rattle.meaning.specs.Keys.{Key}
 use Rattle.meaning.specs.Pattern.{tOf, ends, marked}
-use Rattle.theory_paths.specs.Bools.{or-cases, or-left, or-right, and-left, and-right, both, any-some, some-any, eqb-of, of-false}
+use Rattle.theory_paths.specs.Bools.{or-cases, or-left, or-right, and-left, and-right, both, eqb-of}
 use Rattle.theory_derive.specs.Logic.{less-or}
 use Rattle.theory_derive.specs.Spots.{branchOf, lineOf, holdsEmpty, markedAt}
 use Rattle.theory_derive.specs.Lines.{line-length}

@@ -1,16 +1,16 @@
 -- The numbers of the pattern's nodes: chain node k is node k; spot (j, k) with k > n is node n + (the earlier key paths' lengths) + (k - n).
 -- Each node but the root has the spot above it as its parent and the line's symbol as its label.
 use Prim.Native.Nat.{ℕ, zero, suc, _+_, _-_, _≤_, _<_}
-use mathlib.Core.Path.{_≡_, refl, sym, ap, ap₂, subst, _∙_}
+use mathlib.Core.Path.{_≡_, refl, sym, ap, ap₂, _∙_}
 use mathlib.Core.Logic.{_⊎_, inl, inr}
-use mathlib.Core.Bool.{Bool, true, false, cond}
+use mathlib.Core.Bool.{cond}
 use mathlib.Core.List.{List, [], _∷_, _++_}
 use native.Mathlib.Omega.{arith}
 use lib.Dec.{leb}
 use lib.ListN.{length, getD, length-append, List·getD-append}
 use lib.Seq.{getD-append-add}
 use borrow.Author.Tests.{le-leb, lt-leb}
-use Rattle.meaning.specs.Trees.{Table, Node, noNode, tableOf, Child}
+use Rattle.meaning.specs.Trees.{Node, noNode, tableOf}
 use Rattle.meaning.specs.Keys.{Key}
 use Rattle.meaning.specs.Pattern.{drawn, run, branches, patternNodes, pattern, tOf}
 use Rattle.theory_derive.specs.Logic.{less-or}

@@ -3,19 +3,19 @@
 use Prim.Native.Nat.{ℕ, zero, suc, _+_, _-_, _≤_, _<_}
 use mathlib.Core.Path.{_≡_, refl, sym, ap, ap₂, subst, _∙_}
 use mathlib.Core.Logic.{_⊎_, inl, inr}
-use mathlib.Core.Bool.{Bool, true, false, cond}
-use mathlib.Core.List.{List, [], _∷_, _++_, map}
+use mathlib.Core.Bool.{Bool, cond}
+use mathlib.Core.List.{List, [], _∷_}
 use native.Mathlib.Omega.{arith}
-use lib.Dec.{T, leb, eqb·suc-zero}
-use lib.ListN.{length, getD, take, drop, length-append}
+use lib.Dec.{eqb·suc-zero}
+use lib.ListN.{length, getD, take, drop}
 use lib.Seq.{slice-empty, slice-cons}
-use Rattle.meaning.specs.Trees.{Table, Node, noNode, tableOf, Child, Down, here, step}
+use Rattle.meaning.specs.Trees.{Node, tableOf, Child, Down, here, step}
 use Rattle.meaning.specs.Keys.{Key}
-use Rattle.meaning.specs.Pattern.{drawn, patternNodes, pattern, tOf}
+use Rattle.meaning.specs.Pattern.{drawn, pattern, tOf}
 use Rattle.theory_paths.specs.Inclusion.{fill}
 use Rattle.theory_derive.specs.Logic.{less-or}
-use Rattle.theory_derive.specs.Spots.{chainOf, branchOf, lineOf, part}
-use Rattle.theory_derive.specs.Lines.{chain-length, line-length}
+use Rattle.theory_derive.specs.Spots.{branchOf, lineOf, part}
+use Rattle.theory_derive.specs.Lines.{line-length}
 use Rattle.theory_derive.specs.Numbers.{offset, offset-next, spotNode, spot-chain, spot-branch, node, nodeOf, spot-node, spot-inside, spot-positive, pattern-size, in-branch}
 
 -- (j, k) is a spot

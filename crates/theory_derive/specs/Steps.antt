@@ -1,28 +1,27 @@
 -- ARGUMENT 4: the steps on lines of symbols are the steps of 01's pattern, and the loop over them finds the u of 01.
-use Prim.Native.Nat.{ℕ, zero, suc, _+_, _-_, _≤_, _<_, min}
-use mathlib.Core.Path.{_≡_, refl, sym, ap, ap₂, subst, subst₂, _∙_}
-use mathlib.Core.Logic.{_⊎_, inl, inr, ⊎-elim}
-use mathlib.Core.List.{List, [], _∷_, _++_, List·Memᴰ, List·Memᴰ·head, List·Memᴰ·tail}
-use mathlib.Core.Option.{some}
+use Prim.Native.Nat.{ℕ, _+_, _-_, _≤_, _<_}
+use mathlib.Core.Path.{_≡_, refl, sym, ap, subst, subst₂, _∙_}
+use mathlib.Core.Logic.{⊎-elim}
+use mathlib.Core.List.{List}
 use native.Mathlib.Omega.{arith}
 use lib.Dec.{T}
-use lib.ListN.{length, take, drop, getElem?, length-take, length-drop}
+use lib.ListN.{length, take, length-take, length-drop}
 use Rattle.meaning.specs.Limits.{inProfile}
 use Rattle.meaning.specs.Lists.{Each}
 use Rattle.meaning.specs.Paths.{Label, member, simple}
-use Rattle.meaning.specs.Trees.{Child, Down, here, Reached}
+use Rattle.meaning.specs.Trees.{Reached}
 use Rattle.meaning.specs.Keys.{Key}
-use Rattle.meaning.specs.Pattern.{pattern, tOf, qOf, marked, Lands, Step, toChild, byKey, Leads, arrived, onward, IsU}
+use Rattle.meaning.specs.Pattern.{pattern, tOf, marked, Lands, Step, byKey}
 use Rattle.theory_paths.specs.Bools.{Each-at, Each-of}
-use Rattle.theory_paths.specs.Words.{Word, word-refl, member→word, word→member, word-trans}
+use Rattle.theory_paths.specs.Words.{word-refl, member→word, word→member, word-trans}
 use Rattle.theory_paths.specs.Inclusion.{fill, fill-word, noFiller, unfill-word}
 use Rattle.theory_paths.specs.Simple.{simple-word}
 use Rattle.theory_paths.specs.Good.{GoodLabels, GoodKey, context-clear, target-clear, key-path-clear, key-path-simple, paths-some}
 use Rattle.theory_derive.specs.Logic.{less-or, each-imp, found-mem}
-use Rattle.theory_derive.specs.Spots.{Taken, lineOf, part, markedAt, LandsAt, FiresBy, Fires, Chain, begun, taken}
+use Rattle.theory_derive.specs.Spots.{Taken, lineOf, part, markedAt, LandsAt, FiresBy, Fires}
 use Rattle.theory_derive.specs.Lines.{line-length}
 use Rattle.theory_derive.specs.Numbers.{spotNode, spot-chain, spot-inside, pattern-size}
-use Rattle.theory_derive.specs.Places.{IsSpot, Place, Begins, spot-child, spot-above, place-of, spot-once, spot-shared, spot-down, down-spot, down-inside}
+use Rattle.theory_derive.specs.Places.{IsSpot, Place, spot-above, place-of, spot-once, spot-shared, spot-down, down-spot, down-inside}
 use Rattle.theory_derive.specs.Marks.{marked-says, marked-test}
 
 -- a path that the symbols are a word of is a path that the labels are a word of, 201 standing for 0
