@@ -32,6 +32,11 @@ module _ {A : Type 0} where
   each-append ys end f = f
   each-append ys (also q e) f = also q (each-append ys e f)
 
+  -- a list that has a member is not empty
+  pub mem-some : {x : A} {xs : List A} → List·Memᴰ x xs → 1 ≤ length xs
+  mem-some (List·Memᴰ·head e) = omega arith
+  mem-some (List·Memᴰ·tail m) = omega arith
+
   -- a number of a list is the place of a member
   pub found-mem : (xs : List A) (n : ℕ) {x : A} → getElem? xs n ≡ some x → List·Memᴰ x xs
   found-mem [] n e = absurd (Option·none-ne-some _ e)

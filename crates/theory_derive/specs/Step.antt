@@ -2,7 +2,7 @@
 use Prim.Native.Nat.{ℕ, _-_, _≤_, _<_}
 use mathlib.Core.Path.{_≡_, refl, sym, ap, ap₂, subst, _∙_}
 use mathlib.Core.Bool.{Bool, true, false, cond}
-use mathlib.Core.List.{List, [], _∷_, _++_, map, append-assoc, List·Memᴰ, List·Memᴰ·head, List·Memᴰ·tail, Memᴰ·map, Memᴰ·cast}
+use mathlib.Core.List.{List, [], _∷_, _++_, map, append-assoc, List·Memᴰ, Memᴰ·map, Memᴰ·cast}
 use native.Mathlib.Omega.{arith}
 use lib.Dec.{T}
 use lib.ListN.{length, take, drop, length-append, length-map, take-append-drop}
@@ -17,7 +17,7 @@ use Rattle.theory_paths.specs.Bools.{any-some, of-true, Each-at, Each-of}
 use Rattle.theory_paths.specs.Normal.{norm-of-normal}
 use Rattle.theory_paths.specs.Simple.{simple-left, simple-append, simple-normal}
 use Rattle.theory_paths.specs.Good.{GoodKey, key-path-simple, key-path-length, paths-within, paths-ascending, some-path}
-use Rattle.theory_derive.specs.Logic.{each-imp, each-map}
+use Rattle.theory_derive.specs.Logic.{each-imp, each-map, mem-some}
 use Rattle.theory_derive.specs.Parts.{take-part, part-drop, take-past, drop-past, join-norm}
 use Rattle.theory_derive.specs.Sets.{unite, each-unite, unite-first, unite-second, unite-length, unite-ascending}
 use Rattle.theory_derive.specs.Spots.{chainOf, branchOf, lineOf, part, holdsEmpty, FiresBy}
@@ -174,11 +174,7 @@ module _ (labels : List Label) (asked s : Key) (i j k : ℕ) (g : GoodKey labels
       go false = omega (arith, paths-within labels inProfile asked g)
 
   pub united-some : 1 ≤ length (united asked s k)
-  united-some = let p = some-path labels inProfile asked g in some-length (united-old (p .1))
-    where
-      some-length : {x : List ℕ} {S : List (List ℕ)} → List·Memᴰ x S → 1 ≤ length S
-      some-length (List·Memᴰ·head e) = omega arith
-      some-length (List·Memᴰ·tail m) = omega arith
+  united-some = let p = some-path labels inProfile asked g in mem-some (united-old (p .1))
 
   -- the keys over U are read off the lines
   pub united-read : Each (ReadOff asked (chainOf asked)) (united asked s k)
