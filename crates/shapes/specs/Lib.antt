@@ -6,3 +6,4 @@ pub mod Parts
 pub mod Bodies
 pub mod Classes
 pub mod Tables
+pub mod KeyPaths
