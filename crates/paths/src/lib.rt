@@ -6,7 +6,7 @@ ghost use Prim.Native.Nat.{_≤_};
 ghost use lib.ListN.{length};
 ghost use Rattle.meaning.specs.Paths.{member as isMember};
 ghost use Rattle.paths.specs.Search.{Told};
-ghost use Rattle.paths.specs.Square.{Row, Beside, isMark};
+ghost use Rattle.paths.specs.Square.{Filled, Above, Beside, isMark};
 
 // "Symbol 0 in a path is the any-path".
 const ANY_PATH: u8 = 0;
@@ -92,4 +92,31 @@ fn mark(marks: &[bool; SQUARE], p: &[u8], q: &[u8], i: usize, j: usize) -> bool
         return false;
     }
     marks[(i + 1) * ROW + j + 1]
+}
+
+// Row i of the square, from its last mark to its first.
+fn mark_row(marks: &mut [bool; SQUARE], p: &[u8], q: &[u8], i: usize)
+    requires { ⌜ Above (now marks) (now p) (now q) i ⌝ }
+    ensures { λ _. ⌜ Filled (now (marks .exit)) (now (p .entry)) (now (q .entry)) i ⌝ }
+{
+    let mut left = q.len() + 1;
+    while 0 < left {
+        left -= 1;
+        let word = mark(&*marks, p, q, i, left);
+        marks[i * ROW + left] = word;
+    }
+}
+
+// P is a word of Q, its own any-path read as a label that only an any-path takes: for a valid P, that is inclusion (ARGUMENT §1).
+pub fn included(p: &[u8], q: &[u8]) -> bool
+    requires { ⌜ (length (now p) ≤ 32) × (length (now q) ≤ 32) ⌝ }
+    ensures { λ r. ⌜ r ≡ isMember (now (q .entry)) (now (p .entry)) ⌝ }
+{
+    let mut marks = [false; SQUARE];
+    let mut left = p.len() + 1;
+    while 0 < left {
+        left -= 1;
+        mark_row(&mut marks, p, q, left);
+    }
+    marks[0]
 }
