@@ -1,6 +1,6 @@
 -- The square of marks of two paths: what a mark says, and a law for each return. Row i and column j speak of the ends of p and q from
 -- i and j on; the square is filled from its last mark to its first.
-use Prim.Native.Nat.{ℕ, zero, suc, _≤_, _<_, _+_, _*_}
+use Prim.Native.Nat.{ℕ, zero, suc, _≤_, _<_, _+_, _-_, _*_}
 use native.Mathlib.Numerals.{add-one}
 use native.Mathlib.Omega.{arith}
 use mathlib.Core.Path.{_≡_, refl, sym, ap, ap₂, subst, _∙_}
@@ -8,7 +8,7 @@ use mathlib.Core.Logic.{_⊎_, inl, inr, ⊎-elim}
 use mathlib.Core.Bool.{Bool, true, false, _&&_, _||_}
 use mathlib.Core.List.{List, [], _∷_, _++_}
 use lib.Dec.{eqb}
-use lib.ListN.{length, drop, getD, set, drop-of-length-le}
+use lib.ListN.{length, drop, getD, set, length-set, replicate, length-replicate}
 use lib.Seq.{drop-cons, drop-length, getD-set-same, getD-set-other}
 use borrow.Author.Tests.{eq-eqb, ne-eqb}
 use Rattle.meaning.specs.Lists.{isEmpty}
@@ -22,8 +22,14 @@ isMark p q i j = member (drop j q) (drop i p)
 unfoldable pub Row : List Bool → List ℕ → List ℕ → ℕ → ℕ → Type 0
 Row marks p q i j = (k : ℕ) → j ≤ k → k ≤ length q → getD marks (i * 33 + k) false ≡ isMark p q i k
 
+-- row i is filled, in a square of 33 rows
+pub record Filled (marks : List Bool) (p q : List ℕ) (i : ℕ) : Type 0 where
+  pub size : length marks ≡ 1089
+  pub row : Row marks p q i 0
+
 -- what is known before row i is filled: the row below it is there
 pub record Above (marks : List Bool) (p q : List ℕ) (i : ℕ) : Type 0 where
+  pub size : length marks ≡ 1089
   pub short : length p ≤ 32
   pub narrow : length q ≤ 32
   pub low : i ≤ length p
@@ -167,3 +173,81 @@ module _ (marks : List Bool) (p q : List ℕ) (i j : ℕ) (b : Beside marks p q 
       ∙ sym
       (label-mid p q i j inside n (shorter l)
       ∙ ap (λ (x : Bool). x && isMark p q (suc i) (suc j)) (eq-eqb (getD p i 0) (getD q j 0) d))
+
+-- Row i while it is filled: its marks from `left` on are there, and the row below
+pub record Filling (marks : List Bool) (p q : List ℕ) (i left : ℕ) : Type 0 where
+  pub above : Above marks p q i
+  pub most : left ≤ length q + 1
+  pub rest : Row marks p q i left
+
+pub filling-start : (marks : List Bool) (p q : List ℕ) (i : ℕ) → Above marks p q i → Filling marks p q i (length q + 1)
+unfolding Row
+filling-start marks p q i a = record { above = a; most = omega arith; rest = λ k l w. absurd (omega arith) }
+
+pub filling-beside : (marks : List Bool) (p q : List ℕ) (i left : ℕ) → Filling marks p q i left → 0 < left → Beside marks p q i (left - 1)
+filling-beside marks p q i left f h =
+    let most = f .most in
+    record { above = f .above; within = omega arith; rest = subst (Row marks p q i) (omega arith) (f .rest) }
+
+pub filling-more : (marks : List Bool) (p q : List ℕ) (i left : ℕ) (word : Bool) → Filling marks p q i left → 0 < left
+    → word ≡ isMark p q i (left - 1) → Filling (set marks (i * 33 + (left - 1)) word) p q i (left - 1)
+unfolding Row
+filling-more marks p q i left word f h e =
+    record {
+      above = record { size = length-set marks at word ∙ a .size; short = a .short; narrow = a .narrow; low = a .low; next = later };
+      most = omega arith;
+      rest = λ k l w. go k w (last-or-less (left - 1) k l);
+    }
+  where
+    a : Above marks p q i
+    a = f .above
+
+    at : ℕ
+    at = i * 33 + (left - 1)
+
+    later : i < length p → Row (set marks at word) p q (i + 1) 0
+    later l k z w =
+        getD-set-other marks at ((i + 1) * 33 + k) word false (omega arith) ∙ a .next l k z w
+
+    go : (k : ℕ) → k ≤ length q → (left - 1 ≡ k) ⊎ (left - 1 < k) → getD (set marks at word) (i * 33 + k) false ≡ isMark p q i k
+    go k w (inl d) =
+        let inside : at < length marks = omega arith in
+        subst (λ (n : ℕ). getD (set marks at word) (i * 33 + n) false ≡ isMark p q i n) d
+        (getD-set-same marks at word false inside ∙ e)
+    go k w (inr l) = getD-set-other marks at (i * 33 + k) word false (omega arith) ∙ f .rest k (omega arith) w
+
+pub filling-end : (marks : List Bool) (p q : List ℕ) (i left : ℕ) → Filling marks p q i left → left ≤ 0 → Filled marks p q i
+filling-end marks p q i left f h = record { size = f .above .size; row = subst (Row marks p q i) (omega arith) (f .rest) }
+
+-- The square while it is filled: row `left` is there, and what comes before it is not yet
+pub record Marked (marks : List Bool) (p q : List ℕ) (left : ℕ) : Type 0 where
+  pub size : length marks ≡ 1089
+  pub short : length p ≤ 32
+  pub narrow : length q ≤ 32
+  pub most : left ≤ length p + 1
+  pub row : left ≤ length p → Row marks p q left 0
+
+pub marked-start : (p q : List ℕ) → (length p ≤ 32) × (length q ≤ 32) → Marked (replicate 1089 false) p q (length p + 1)
+marked-start p q h =
+    record { size = length-replicate 1089 false; short = h .0; narrow = h .1; most = omega arith; row = λ l. absurd (omega arith) }
+
+pub marked-above : (marks : List Bool) (p q : List ℕ) (left : ℕ) → Marked marks p q left → 0 < left → Above marks p q (left - 1)
+marked-above marks p q left m h =
+    record {
+      size = m .size;
+      short = m .short;
+      narrow = m .narrow;
+      low = omega arith;
+      next = λ l. subst (λ (n : ℕ). Row marks p q n 0) (omega arith) (m .row (omega arith));
+    }
+
+pub marked-more : (marks marks′ : List Bool) (p q : List ℕ) (left : ℕ) → Marked marks p q left → 0 < left → Filled marks′ p q (left - 1)
+    → Marked marks′ p q (left - 1)
+marked-more marks marks′ p q left m h f =
+    record { size = f .size; short = m .short; narrow = m .narrow; most = omega arith; row = λ l. f .row }
+
+pub marked-end : (marks : List Bool) (p q : List ℕ) (left : ℕ) → Marked marks p q left → left ≤ 0 → getD marks 0 false ≡ member q p
+unfolding Row isMark
+marked-end marks p q left m h =
+    let none-left : left ≡ 0 = omega arith in
+    subst (λ (n : ℕ). Row marks p q n 0) none-left (m .row (omega arith)) 0 (omega arith) (omega arith)

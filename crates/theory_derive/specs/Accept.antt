@@ -1,26 +1,26 @@
 -- ARGUMENT 5: the written proof is accepted. "Invariant: before step r, h ≤ u_r".
-use Prim.Native.Nat.{ℕ, zero, suc, _+_, _-_, _*_, _≤_, _<_, min}
+use Prim.Native.Nat.{ℕ, zero, suc, _+_, _-_, _*_, _≤_, _<_}
 use mathlib.Core.Path.{_≡_, refl, sym, ap, ap₂, subst, _∙_}
-use mathlib.Core.Logic.{_⊎_, inl, inr}
 use mathlib.Core.Bool.{Bool, true, false, cond}
-use mathlib.Core.List.{List, [], _∷_, _++_, map, append-nil}
-use mathlib.Core.Option.{Option, some, none, Option·none-ne-some, Option·some-injective}
+use mathlib.Core.List.{List, [], _∷_, _++_, append-nil}
+use mathlib.Core.Option.{Option, some, Option·none-ne-some, Option·some-injective}
 use native.Mathlib.Omega.{arith}
-use lib.Dec.{T, leb}
+use lib.Dec.{leb}
 use lib.ListN.{length, take, drop, getD, getElem?, length-append, length-map, drop-of-length-le}
 use lib.Seq.{take-append-seam, drop-append-seam}
 use borrow.Author.Tests.{leb-true, leb-false}
 use Rattle.meaning.specs.Limits.{inProfile, inProof, noNumber}
 use Rattle.meaning.specs.Lists.{Each}
-use Rattle.meaning.specs.Paths.{Label, norm, join}
+use Rattle.meaning.specs.Paths.{Label, norm}
 use Rattle.meaning.specs.Keys.{Key}
 use Rattle.meaning.specs.Rules.{Line, Epsilon, rule1, rule7, lineKeys, EndsWith, Accepted, ContextTarget}
 use Rattle.meaning.specs.Records.{noKey}
+use Rattle.meaning.specs.Refusals.{firstOf, keyTests}
 use Rattle.meaning.specs.Pattern.{qOf, tOf}
 use Rattle.theory_paths.specs.Bools.{Each-at}
 use Rattle.theory_paths.specs.Normal.{norm-of-normal}
-use Rattle.theory_paths.specs.Good.{GoodKey, context-normal, target-normal, target-length, paths-within}
-use Rattle.theory_derive.specs.Logic.{found-mem, found-later, found-before}
+use Rattle.theory_paths.specs.Good.{GoodKey, tests-of-good, context-normal, target-length, paths-within}
+use Rattle.theory_derive.specs.Logic.{each-imp, found-mem, found-later, found-before}
 use Rattle.theory_derive.specs.Parts.{take-part, part-drop, join-norms, join-norm}
 use Rattle.theory_derive.specs.Spots.{Taken, Fires, FiresBy, Chain, begun, taken, chainOf, holdsEmpty, part}
 use Rattle.theory_derive.specs.Written
@@ -196,6 +196,11 @@ module _ (labels : List Label) (keys : List Key) (asked : Key) (gk : Each (GoodK
   -- each line is well formed, with at most 8 key paths
   pub proof-fine : {u : ℕ} {steps : List Taken} → Chain keys asked u steps → u ≡ tOf asked → Each (FineLine labels) (proofLines keys asked steps)
   proof-fine chain e = runs-fine (proof-runs chain e)
+
+  -- and so its tests give no refusal
+  pub proof-tests : {u : ℕ} {steps : List Taken} → Chain keys asked u steps → u ≡ tOf asked
+      → Each (λ (l : Line). firstOf (keyTests labels inProof (l .key)) ≡ 0) (proofLines keys asked steps)
+  proof-tests chain e = each-imp (λ l h. tests-of-good labels inProof (l .key) (h .good)) (proof-fine chain e)
 
   -- "At most 1 + 8·8 + 1 = 66 lines"
   pub proof-few : {u : ℕ} {steps : List Taken} → Chain keys asked u steps → length (proofLines keys asked steps) ≤ 66

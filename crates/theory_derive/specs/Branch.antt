@@ -1,11 +1,11 @@
 -- One step (s, i, j, k) with k > n: its key paths against what is left of branch j. ARGUMENT 5, second case.
-use Prim.Native.Nat.{ℕ, zero, suc, _+_, _-_, _≤_, _<_}
+use Prim.Native.Nat.{ℕ, _+_, _≤_, _<_}
 use mathlib.Core.Path.{_≡_, refl, sym, ap, ap₂, subst, _∙_}
-use mathlib.Core.Bool.{Bool, true, false}
+use mathlib.Core.Bool.{false}
 use mathlib.Core.List.{List, [], _∷_, _++_, append-assoc, append-nil, List·Memᴰ, List·Memᴰ·head, List·Memᴰ·tail}
 use native.Mathlib.Omega.{arith}
 use lib.Dec.{T}
-use lib.ListN.{length, take, drop, length-append}
+use lib.ListN.{length, drop, length-append}
 use Rattle.meaning.specs.Limits.{inProfile}
 use Rattle.meaning.specs.Lists.{Each, end, also, every}
 use Rattle.meaning.specs.Paths.{Label, join, simple}
@@ -17,8 +17,8 @@ use Rattle.theory_paths.specs.Simple.{simple-left, simple-right, join-simples}
 use Rattle.theory_paths.specs.Good.{GoodKey, key-path-simple, key-path-length, paths-some, paths-ascending}
 use Rattle.theory_derive.specs.Logic.{each-imp}
 use Rattle.theory_derive.specs.Sets.{insert, each-insert, ascending-one}
-use Rattle.theory_derive.specs.Spots.{chainOf, branchOf, lineOf, holdsEmpty, LandsAt, FiresBy}
-use Rattle.theory_derive.specs.Written.{above, toSpot, toT, belowSpot}
+use Rattle.theory_derive.specs.Spots.{chainOf, branchOf, lineOf, holdsEmpty, FiresBy}
+use Rattle.theory_derive.specs.Written.{above, toSpot, belowSpot}
 use Rattle.theory_derive.specs.Lines.{OnLine, ReadOff, branch-among, begins-read, among-begins}
 use Rattle.theory_derive.specs.Landing.{landed-on, below-begins, below-whole}
 use Rattle.theory_derive.specs.Step.{above-spot, within, within-below, spot-below}

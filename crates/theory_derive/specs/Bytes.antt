@@ -1,12 +1,11 @@
 -- ARGUMENT 5: the written proof is "far inside 256 lines and 65,536 bytes".
-use Prim.Native.Nat.{ℕ, zero, suc, _+_, _-_, _*_, _≤_, _<_}
-use mathlib.Core.Path.{_≡_, refl, sym, ap, subst, _∙_}
+use Prim.Native.Nat.{ℕ, _+_, _-_, _*_, _≤_, _<_}
+use mathlib.Core.Path.{_≡_}
 use mathlib.Core.Bool.{Bool, true, false, cond}
 use mathlib.Core.List.{List, [], _∷_, _++_, map, flatten}
-use mathlib.Core.Option.{some, none, Option·none-ne-some}
 use native.Mathlib.Omega.{arith}
 use lib.Dec.{leb}
-use lib.ListN.{length, getD, getElem?, length-append}
+use lib.ListN.{length, getD, length-append}
 use Rattle.meaning.specs.Limits.{inProfile, inProof, noNumber}
 use Rattle.meaning.specs.Lists.{Each, end, also}
 use Rattle.meaning.specs.Paths.{Label}
@@ -16,8 +15,8 @@ use Rattle.meaning.specs.Records.{noKey, wordBytes, recordBytes, pathBytes, key
 use Rattle.meaning.specs.Pattern.{tOf}
 use Rattle.theory_paths.specs.Bools.{Each-of}
 use Rattle.theory_paths.specs.Good.{GoodKey, context-length, target-length, key-path-length}
-use Rattle.theory_derive.specs.Logic.{each-imp}
-use Rattle.theory_derive.specs.Spots.{Taken, Fires, Chain, begun, taken, holdsEmpty}
+use Rattle.theory_derive.specs.Logic.{each-imp, each-append, found-below}
+use Rattle.theory_derive.specs.Spots.{Taken, Chain, begun, taken, holdsEmpty}
 use Rattle.theory_derive.specs.Written.{keyAt, oneLine, twoLine, opening, chainLines, emptyLines, endLines, stepLines, takenLines, linesFrom, proofLines}
 use Rattle.theory_derive.specs.Runs.{FineLine}
 use Rattle.theory_derive.specs.Accept.{proof-fine, proof-few, steps-few, step-ends}
@@ -69,10 +68,6 @@ pub record FieldsFit (l : Line) : Type 0 where
   pub first : l .first < 65536
   pub second : l .second < 65536
 
-pub each-append : {A : Type 0} {Q : A → Type 0} {xs : List A} (ys : List A) → Each Q xs → Each Q ys → Each Q (xs ++ ys)
-each-append ys end f = f
-each-append ys (also q e) f = also q (each-append ys e f)
-
 one-fits : (rule first : ℕ) (k : Key) → rule < 256 → first < 65536 → FieldsFit (oneLine rule first k)
 unfolding oneLine
 one-fits rule first k r f = record { rule = r; first = f; second = omega arith }
@@ -103,11 +98,6 @@ step-fits asked s number i j k at n a =
         (also (one-fits 8 (at + 4) _ (omega arith) (omega arith)) (also (one-fits 3 (at + 5) _ (omega arith) (omega arith)) end)))
     go false false =
         also (one-fits 4 (at + 2) _ (omega arith) (omega arith)) (also (one-fits 3 (at + 3) _ (omega arith) (omega arith)) end)
-
-found-below : {A : Type 0} (xs : List A) (n : ℕ) {x : A} → getElem? xs n ≡ some x → n < length xs
-found-below [] n e = absurd (Option·none-ne-some _ e)
-found-below (y ∷ xs) zero e = omega arith
-found-below (y ∷ xs) (suc n) e = let h = found-below xs n e in omega arith
 
 from-fits : (keys : List Key) (asked : Key) → length keys ≤ 65536 → {u : ℕ} {steps : List Taken} → Chain keys asked u steps → (at : ℕ)
     → at + 8 * length steps < 60000 → Each FieldsFit (linesFrom keys asked at steps)

@@ -1,21 +1,19 @@
 -- The test of a step and what it says: `fires` is true exactly where `Fires` holds.
-use Prim.Native.Nat.{ℕ, zero, suc, _+_, _-_, _≤_, _<_}
-use mathlib.Core.Path.{_≡_, refl, sym, ap, subst, _∙_}
-use mathlib.Core.Logic.{_⊎_, inl, inr, ⊎-elim}
-use mathlib.Core.Bool.{Bool, true, false, cond, _&&_, _||_}
-use mathlib.Core.List.{List, [], _∷_, _++_, List·Memᴰ, List·Memᴰ·head, List·Memᴰ·tail}
-use mathlib.Core.Option.{Option, none, some, Option·none-ne-some, Option·some-injective}
+use Prim.Native.Nat.{ℕ, zero, suc, _+_, _≤_, _<_}
+use mathlib.Core.Path.{_≡_, refl, subst}
+use mathlib.Core.Logic.{_⊎_, inl, inr}
+use mathlib.Core.List.{List, _∷_, List·Memᴰ, List·Memᴰ·head, List·Memᴰ·tail}
+use mathlib.Core.Option.{Option, none, some}
 use native.Mathlib.Omega.{arith}
-use lib.Dec.{T, leb, ltb, eqb, ltb→lt, lt→ltb, leb→le, le→leb}
-use lib.ListN.{length, take, getElem?}
+use lib.Dec.{T, ltb, ltb→lt, lt→ltb, leb→le, le→leb}
+use lib.ListN.{length, getElem?}
 use borrow.Author.Tests.{le-leb, lt-leb}
-use Rattle.meaning.specs.Lists.{Each, every, any, same, numbers}
-use Rattle.meaning.specs.Paths.{member}
+use Rattle.meaning.specs.Lists.{same, numbers}
 use Rattle.meaning.specs.Keys.{Key}
 use Rattle.meaning.specs.Pattern.{tOf}
 use Rattle.theory_paths.specs.Bools.{and-left, and-right, both, any-some, some-any, same-eq, eq-same, every-Each, Each-every}
 use Rattle.theory_derive.specs.Logic.{less-or, each-imp}
-use Rattle.theory_derive.specs.Spots.{Taken, lineOf, part, markedAt, landsOn, lands, firesBy, firesFound, fires, LandsAt, FiresBy, Fires}
+use Rattle.theory_derive.specs.Spots.{Taken, lineOf, part, landsOn, lands, firesBy, firesFound, fires, LandsAt, FiresBy, Fires}
 
 -- `numbers` holds the numbers from the first on
 pub numbers-mem : (count n x : ℕ) → n ≤ x → x < n + count → List·Memᴰ x (numbers count n)

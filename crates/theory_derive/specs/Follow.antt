@@ -1,32 +1,31 @@
 -- ARGUMENT 5: the lines of one step follow from what stands before them, and each is well formed.
-use Prim.Native.Nat.{ℕ, zero, suc, _+_, _-_, _≤_, _<_}
-use mathlib.Core.Path.{_≡_, refl, sym, ap, ap₂, subst, _∙_}
-use mathlib.Core.Logic.{_⊎_, inl, inr, ⊎-elim}
+use Prim.Native.Nat.{ℕ, _+_, _-_, _≤_, _<_}
+use mathlib.Core.Path.{_≡_, refl, sym, ap, subst, _∙_}
 use mathlib.Core.Bool.{Bool, true, false, cond}
-use mathlib.Core.List.{List, [], _∷_, _++_, map, append-assoc, append-nil, List·Memᴰ, List·Memᴰ·head, Memᴰ·cast}
+use mathlib.Core.List.{List, [], _∷_, _++_, map, append-assoc, List·Memᴰ}
 use mathlib.Core.Option.{some}
 use native.Mathlib.Omega.{arith}
-use lib.Dec.{T, leb}
-use lib.ListN.{length, take, drop, getElem?, length-append, length-map, length-take, length-drop, take-append-drop}
+use lib.Dec.{T}
+use lib.ListN.{length, take, drop, getElem?, length-map, length-take, length-drop, take-append-drop}
 use Rattle.meaning.specs.Limits.{inProfile, inProof}
-use Rattle.meaning.specs.Lists.{Each, end, also, every, ascending}
+use Rattle.meaning.specs.Lists.{Each, every, ascending}
 use Rattle.meaning.specs.Refusals.{isSymbol}
-use Rattle.meaning.specs.Paths.{Label, classOf, norm, join, simple, valid, Included}
+use Rattle.meaning.specs.Paths.{Label, classOf, norm, simple, valid, Included}
 use Rattle.meaning.specs.Keys.{Key}
-use Rattle.meaning.specs.Rules.{Line, Follows, rule0, rule2, rule3, rule4, rule5, rule6, rule7, rule8, rule9, Superkey, ContextTarget, Interaction, PrefixEpsilon, Subnodes, SubnodesEpsilon, withEmpty}
+use Rattle.meaning.specs.Rules.{rule0, rule2, rule3, rule5, rule6, rule7, rule9, Superkey, ContextTarget, Interaction}
 use Rattle.meaning.specs.Pattern.{tOf}
-use Rattle.theory_paths.specs.Bools.{Each-at, Each-of, every-left}
+use Rattle.theory_paths.specs.Bools.{Each-of, every-left}
 use Rattle.theory_paths.specs.Words.{Word, member→word}
 use Rattle.theory_paths.specs.Valid.{mayStep, valid-norm, valid-append}
 use Rattle.theory_paths.specs.Normal.{run-norm←, norm-of-normal, norm-normal, join-three}
 use Rattle.theory_paths.specs.Inclusion.{included-of-word}
 use Rattle.theory_paths.specs.Simple.{simple-normal}
 use Rattle.theory_paths.specs.Good.{GoodKey, target-symbols, target-normal, target-length, key-path-symbols, key-path-simple, key-path-length, valid-below, paths-some, paths-within, paths-ascending}
-use Rattle.theory_derive.specs.Logic.{each-imp, found-later, found-before}
-use Rattle.theory_derive.specs.Parts.{take-part, part-drop, join-norms, join-norm, every-norm, norm-length}
-use Rattle.theory_derive.specs.Sets.{insert, insert-self, insert-old, insert-length, insert-ascending, ascending-front, ascending-empty}
+use Rattle.theory_derive.specs.Logic.{found-later, found-before}
+use Rattle.theory_derive.specs.Parts.{take-part, part-drop, join-norms, every-norm, norm-length}
+use Rattle.theory_derive.specs.Sets.{ascending-front}
 use Rattle.theory_derive.specs.Spots.{chainOf, branchOf, lineOf, part, holdsEmpty, FiresBy}
-use Rattle.theory_derive.specs.Written.{keyOf, keyAt, oneLine, twoLine, above, toSpot, toT, belowSpot, narrowed, atSpot, beyond, united, opening, chainLines, endLines, emptyLines}
+use Rattle.theory_derive.specs.Written.{keyOf, keyAt, oneLine, twoLine, above, toSpot, toT, narrowed, atSpot, united, opening, chainLines}
 use Rattle.theory_derive.specs.Lines.{ReadOff, good-make, before-steps, chain-symbols, good-read, begins-read, among-begins, good-at, good-wider, chain-short, chain-length, line-length, branch-among}
 use Rattle.theory_derive.specs.Runs.{FineLine, Runs, done, next}
 use Rattle.theory_derive.specs.Step

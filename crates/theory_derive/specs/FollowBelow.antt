@@ -1,20 +1,20 @@
 -- ARGUMENT 5, "k > n": the lines of a step from inside a branch follow.
-use Prim.Native.Nat.{ℕ, zero, suc, _+_, _-_, _≤_, _<_}
+use Prim.Native.Nat.{ℕ, _+_, _≤_, _<_}
 use mathlib.Core.Path.{_≡_, refl, sym, ap, subst, _∙_}
-use mathlib.Core.Bool.{Bool, true, false, cond}
-use mathlib.Core.List.{List, [], _∷_, _++_, List·Memᴰ, List·Memᴰ·head, List·Memᴰ·tail}
+use mathlib.Core.Bool.{true, false}
+use mathlib.Core.List.{List, [], _∷_, _++_}
 use native.Mathlib.Omega.{arith}
-use lib.Dec.{T}
 use lib.ListN.{length, getElem?}
 use mathlib.Core.Option.{some}
-use Rattle.meaning.specs.Limits.{inProfile, inProof}
+use Rattle.meaning.specs.Limits.{inProfile}
 use Rattle.meaning.specs.Lists.{Each, end, also, ascending}
 use Rattle.meaning.specs.Paths.{Label, norm, join}
 use Rattle.meaning.specs.Keys.{Key}
 use Rattle.meaning.specs.Rules.{rule2, rule3, rule4, rule8, withEmpty}
 use Rattle.meaning.specs.Pattern.{tOf}
 use Rattle.theory_paths.specs.Bools.{Each-of}
-use Rattle.theory_paths.specs.Good.{GoodKey, paths-some, paths-within, paths-ascending}
+use Rattle.theory_paths.specs.Good.{GoodKey, paths-within, paths-ascending}
+use Rattle.theory_derive.specs.Logic.{mem-some}
 use Rattle.theory_derive.specs.Parts.{join-norm}
 use Rattle.theory_derive.specs.Sets.{insert, insert-self, insert-old, insert-length, insert-ascending, ascending-empty}
 use Rattle.theory_derive.specs.Spots.{chainOf, branchOf, holdsEmpty, FiresBy}
@@ -34,10 +34,6 @@ with-empty-few : (p : List ℕ) → length (withEmpty p) ≤ 8
 unfolding withEmpty
 with-empty-few [] = omega arith
 with-empty-few (x ∷ p) = omega arith
-
-some-length : {x : List ℕ} {S : List (List ℕ)} → List·Memᴰ x S → 1 ≤ length S
-some-length (List·Memᴰ·head e) = omega arith
-some-length (List·Memᴰ·tail m) = omega arith
 
 module _ (labels : List Label) (keys : List Key) (asked s : Key) (number i j k : ℕ) (g : GoodKey labels inProfile asked)
     (gs : GoodKey labels inProfile s) (f : FiresBy asked s i j k) (earlier : List Key) (at : ℕ) (e : length earlier ≡ at) (nk : tOf asked < k) where
@@ -97,7 +93,7 @@ module _ (labels : List Label) (keys : List Key) (asked s : Key) (number i j k :
         (record { context = refl; target = refl; includes = Each-of (s .paths) (λ p m. insert-old [] m) }))
         (Follow.read-line labels keys asked s number i j k g gs f earlier at e 3 (at + 2) 65535 (above asked i) (toSpot asked i j k) (insert [] (s .paths))
         (Follow.above-short labels keys asked s number i j k g gs f earlier at e i) (Follow.to-spot-short labels keys asked s number i j k g gs f earlier at e)
-        (some-length (insert-self [] (s .paths))) (omega (arith, insert-length [] (s .paths), paths-within labels inProfile s gs))
+        (mem-some (insert-self [] (s .paths))) (omega (arith, insert-length [] (s .paths), paths-within labels inProfile s gs))
         (insert-ascending [] (s .paths) (paths-ascending labels inProfile s gs)) (Branch.insert-read labels asked s i j k g gs f nk))
         (next
         (rule2 refl refl K3 (later (at + 3) 3 refl (s ∷ narrowed asked s i ∷ atSpot asked s i j k ∷ K3 ∷ []) K3 refl)

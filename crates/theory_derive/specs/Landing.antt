@@ -1,14 +1,14 @@
 -- Where the key paths of a step's key land: ARGUMENT 5, "every mark lies at n or further, so each key path of s has F as its beginning",
 -- and for k > n "S_s is a set of beginnings of H".
-use Prim.Native.Nat.{ℕ, zero, suc, _+_, _-_, _≤_, _<_}
-use mathlib.Core.Path.{_≡_, refl, sym, ap, ap₂, subst, _∙_}
-use mathlib.Core.Logic.{_⊎_, inl, inr, ⊎-elim}
-use mathlib.Core.Bool.{Bool, true, false, _&&_, _||_}
-use mathlib.Core.List.{List, [], _∷_, _++_, append-assoc, append-nil, append-cancel-left, List·Memᴰ}
+use Prim.Native.Nat.{ℕ, _+_, _-_, _≤_, _<_}
+use mathlib.Core.Path.{_≡_, sym, ap, ap₂, subst, _∙_}
+use mathlib.Core.Logic.{⊎-elim}
+use mathlib.Core.Bool.{false}
+use mathlib.Core.List.{List, _++_, append-assoc, append-nil, append-cancel-left, List·Memᴰ}
 use native.Mathlib.Omega.{arith}
-use lib.Dec.{T, eqb, leb, eqb→eq, leb→le}
-use lib.ListN.{length, take, drop, length-append, take-append-drop, drop-of-length-le}
-use lib.Seq.{take-append-le, take-all, drop-append-seam}
+use lib.Dec.{T, eqb, eqb→eq, leb→le}
+use lib.ListN.{length, take, drop, take-append-drop, drop-of-length-le}
+use lib.Seq.{take-append-le, take-all}
 use Rattle.meaning.specs.Keys.{Key}
 use Rattle.meaning.specs.Rules.{BeginsSome}
 use Rattle.meaning.specs.Pattern.{tOf}

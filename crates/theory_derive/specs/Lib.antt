@@ -15,3 +15,8 @@ pub mod FollowBelow
 pub mod Accept
 pub mod Bytes
 pub mod Numbers
+pub mod Places
+pub mod Marks
+pub mod Steps
+pub mod Lowest
+pub mod Ranges

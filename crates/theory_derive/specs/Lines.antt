@@ -1,17 +1,16 @@
 -- The lines of the asked key, and the keys that are read off them: each is well formed. ARGUMENT 5: "all others are read off the asked
 -- key's lines".
-use Prim.Native.Nat.{ℕ, zero, suc, _+_, _-_, _≤_, _<_}
-use mathlib.Core.Path.{_≡_, refl, sym, ap, ap₂, subst, _∙_}
-use mathlib.Core.Logic.{_⊎_, inl, inr}
-use mathlib.Core.Bool.{Bool, true, false, _&&_, _||_}
+use Prim.Native.Nat.{ℕ, suc, _+_, _≤_, _<_}
+use mathlib.Core.Path.{_≡_, refl, sym, ap, subst, _∙_}
+use mathlib.Core.Bool.{_&&_}
 use mathlib.Core.List.{List, [], _∷_, _++_, append-assoc, append-nil, List·Memᴰ, List·Memᴰ·head}
 use native.Mathlib.Omega.{arith}
-use lib.Dec.{T, eqb, leb, le→leb}
+use lib.Dec.{T, leb, le→leb}
 use lib.ListN.{length, getD, take, drop, length-append, length-take, length-drop, take-append-drop}
 use lib.Seq.{split-at}
 use Rattle.meaning.specs.Limits.{KeyLimits, inProfile, inProof}
-use Rattle.meaning.specs.Lists.{Each, end, also, every, ascending}
-use Rattle.meaning.specs.Paths.{Label, classOf, normal, norm, join, simple, valid}
+use Rattle.meaning.specs.Lists.{Each, every, ascending}
+use Rattle.meaning.specs.Paths.{Label, classOf, normal, join, simple, valid}
 use Rattle.meaning.specs.Keys.{Key}
 use Rattle.meaning.specs.Rules.{BeginsSome}
 use Rattle.meaning.specs.Pattern.{tOf}
@@ -19,7 +18,7 @@ use Rattle.meaning.specs.Refusals
 use Rattle.meaning.specs.Refusals.{isSymbol, goodPath, goodSymbols, goodSet}
 use Rattle.theory_paths.specs.Bools.{both, every-append, every-left, every-right, Each-at, Each-of, Each-every}
 use Rattle.theory_paths.specs.Normal.{norm-normal}
-use Rattle.theory_paths.specs.Simple.{simple-left, simple-right, simple-normal, simple-append}
+use Rattle.theory_paths.specs.Simple.{simple-left, simple-normal}
 use Rattle.theory_paths.specs.Valid.{mayStep, valid-left, valid-norm, valid-before}
 use Rattle.theory_paths.specs.Good.{GoodKey, context-symbols, target-symbols, key-path-symbols, key-path-simple, key-path-length, context-length, target-length, paths-some, paths-within, paths-ascending, valid-whole, valid-joined, context-normal, target-normal}
 use Rattle.theory_derive.specs.Logic.{each-imp, getD-mem}

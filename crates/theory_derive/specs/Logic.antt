@@ -1,13 +1,12 @@
 -- Small facts on numbers, on `Each` and on membership, of which the chapters below make use.
 use Prim.Native.Nat.{ℕ, zero, suc, _+_, _≤_, _<_}
-use mathlib.Core.Path.{_≡_, refl, sym, ap, ap₂, subst, _∙_}
+use mathlib.Core.Path.{_≡_, refl, sym, ap}
 use mathlib.Core.Logic.{_⊎_, inl, inr}
-use mathlib.Core.List.{List, [], _∷_, _++_, map, append-assoc, List·Memᴰ, List·Memᴰ·head, List·Memᴰ·tail}
-use mathlib.Core.Option.{some, none, Option·none-ne-some, Option·some-injective}
+use mathlib.Core.List.{List, [], _∷_, _++_, map, List·Memᴰ, List·Memᴰ·head, List·Memᴰ·tail}
+use mathlib.Core.Option.{some, Option·none-ne-some, Option·some-injective}
 use native.Mathlib.Omega.{arith}
 use lib.Dec.{T, ltb, ltb→lt}
-use lib.ListN.{length, getD, getElem?, take, drop, take-append-drop}
-use lib.Seq.{drop-append-add}
+use lib.ListN.{length, getD, getElem?}
 use borrow.Author.Tests.{ltb-false}
 use Rattle.meaning.specs.Lists.{Each, end, also}
 use Rattle.theory_paths.specs.Bools.{T-cases, false-of}
@@ -29,11 +28,25 @@ module _ {A : Type 0} where
   each-both f end end = end
   each-both f (also {x} p e) (also q d) = also (f x p q) (each-both f e d)
 
+  pub each-append : {Q : A → Type 0} {xs : List A} (ys : List A) → Each Q xs → Each Q ys → Each Q (xs ++ ys)
+  each-append ys end f = f
+  each-append ys (also q e) f = also q (each-append ys e f)
+
+  -- a list that has a member is not empty
+  pub mem-some : {x : A} {xs : List A} → List·Memᴰ x xs → 1 ≤ length xs
+  mem-some (List·Memᴰ·head e) = omega arith
+  mem-some (List·Memᴰ·tail m) = omega arith
+
   -- a number of a list is the place of a member
   pub found-mem : (xs : List A) (n : ℕ) {x : A} → getElem? xs n ≡ some x → List·Memᴰ x xs
   found-mem [] n e = absurd (Option·none-ne-some _ e)
   found-mem (y ∷ xs) zero e = List·Memᴰ·head (sym (Option·some-injective _ _ e))
   found-mem (y ∷ xs) (suc n) e = List·Memᴰ·tail (found-mem xs n e)
+
+  pub found-below : (xs : List A) (n : ℕ) {x : A} → getElem? xs n ≡ some x → n < length xs
+  found-below [] n e = absurd (Option·none-ne-some _ e)
+  found-below (y ∷ xs) zero e = omega arith
+  found-below (y ∷ xs) (suc n) e = let h = found-below xs n e in omega arith
 
   pub getD-mem : (xs : List A) (n : ℕ) (d : A) → n < length xs → List·Memᴰ (getD xs n d) xs
   getD-mem [] n d h = absurd (let z : n < 0 = h in omega arith)

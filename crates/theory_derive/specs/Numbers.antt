@@ -1,16 +1,16 @@
 -- The numbers of the pattern's nodes: chain node k is node k; spot (j, k) with k > n is node n + (the earlier key paths' lengths) + (k - n).
 -- Each node but the root has the spot above it as its parent and the line's symbol as its label.
 use Prim.Native.Nat.{ℕ, zero, suc, _+_, _-_, _≤_, _<_}
-use mathlib.Core.Path.{_≡_, refl, sym, ap, ap₂, subst, _∙_}
+use mathlib.Core.Path.{_≡_, refl, sym, ap, ap₂, _∙_}
 use mathlib.Core.Logic.{_⊎_, inl, inr}
-use mathlib.Core.Bool.{Bool, true, false, cond}
+use mathlib.Core.Bool.{cond}
 use mathlib.Core.List.{List, [], _∷_, _++_}
 use native.Mathlib.Omega.{arith}
 use lib.Dec.{leb}
 use lib.ListN.{length, getD, length-append, List·getD-append}
 use lib.Seq.{getD-append-add}
 use borrow.Author.Tests.{le-leb, lt-leb}
-use Rattle.meaning.specs.Trees.{Table, Node, noNode, tableOf, Child}
+use Rattle.meaning.specs.Trees.{Node, noNode, tableOf}
 use Rattle.meaning.specs.Keys.{Key}
 use Rattle.meaning.specs.Pattern.{drawn, run, branches, patternNodes, pattern, tOf}
 use Rattle.theory_derive.specs.Logic.{less-or}
@@ -46,7 +46,17 @@ unfolding over
 over-next n zero = omega arith
 over-next n (suc k) = omega arith
 
-nodeOf : ℕ → ℕ → Node
+over-later : (a m r : ℕ) → 0 < r → over a m r ≡ m + (r - 1)
+unfolding over
+over-later a m zero h = absurd (omega arith)
+over-later a m (suc r) h = omega arith
+
+over-first : (a m r : ℕ) → r ≡ 0 → over a m r ≡ a
+unfolding over
+over-first a m zero h = refl
+over-first a m (suc r) h = absurd (omega arith)
+
+unfoldable pub nodeOf : ℕ → ℕ → Node
 nodeOf parent s = record { parent = parent; label = drawn s; value = 0 }
 
 run-length : (a n : ℕ) (p : List ℕ) → length (run a n p) ≡ length p
@@ -117,3 +127,84 @@ unfolding offset
 offset-end [] j l = absurd (let z : j < 0 = l in omega arith)
 offset-end (p ∷ ps) zero l = omega arith
 offset-end (p ∷ ps) (suc j) l = let z : suc j < suc (length ps) = l in omega (arith, offset-end ps j (omega arith))
+
+-- ---- the pattern
+
+module _ (asked : Key) where
+  pub pattern-size : pattern asked .size ≡ suc (tOf asked + offset (asked .paths) (length (asked .paths)))
+  unfolding pattern tableOf patternNodes chainOf tOf
+  pattern-size =
+      ap suc (length-append (run 0 1 (asked .context ++ asked .target)) (branches (tOf asked) (suc (tOf asked)) (asked .paths))
+      ∙ ap₂ (λ (a b : ℕ). a + b) (run-length 0 1 (asked .context ++ asked .target) ∙ chain-length asked) (branches-length (tOf asked) (suc (tOf asked)) (asked .paths)))
+
+  unfoldable pub node : ℕ → Node
+  node x = getD (patternNodes asked) x noNode
+
+  -- the spot below (j, k) on line j is the node that has (j, k) as its parent and the line's symbol as its label
+  pub spot-node : (j k : ℕ) → j < length (asked .paths) → k < length (lineOf asked j)
+      → node (spotNode asked j (suc k)) ≡ nodeOf (spotNode asked j k) (getD (lineOf asked j) k 0)
+  unfolding node patternNodes lineOf branchOf chainOf
+  spot-node j k b h = go (less-or k (tOf asked))
+    where
+      n : ℕ
+      n = tOf asked
+
+      C : List ℕ
+      C = asked .context ++ asked .target
+
+      P : List ℕ
+      P = getD (asked .paths) j []
+
+      chain : List Node
+      chain = run 0 1 C
+
+      rest : List Node
+      rest = branches n (suc n) (asked .paths)
+
+      off : ℕ
+      off = offset (asked .paths) j
+
+      chain-symbols : length C ≡ n
+      chain-symbols = chain-length asked
+
+      chain-nodes : length chain ≡ n
+      chain-nodes = run-length 0 1 C ∙ chain-symbols
+
+      long : k < n + length P
+      long = omega (arith, line-length asked j)
+
+      above : n ≤ k → over n (suc n + off) (k - n) ≡ spotNode asked j k
+      above l = at (less-or n k)
+        where
+          at : (n < k) ⊎ (k ≤ n) → over n (suc n + off) (k - n) ≡ spotNode asked j k
+          at (inl m) = over-later n (suc n + off) (k - n) (omega arith) ∙ (let z : suc n + off + (k - n - 1) ≡ k + off = omega arith in z) ∙ sym (spot-branch asked j k m)
+          at (inr m) = over-first n (suc n + off) (k - n) (omega arith) ∙ (let z : n ≡ k = omega arith in z) ∙ sym (spot-chain asked j k m)
+
+      go : (k < n) ⊎ (n ≤ k) → node (spotNode asked j (suc k)) ≡ nodeOf (spotNode asked j k) (getD (lineOf asked j) k 0)
+      go (inl l) =
+          ap node (spot-chain asked j (suc k) l)
+          ∙ List·getD-append chain rest noNode k (omega (arith, chain-nodes))
+          ∙ run-node 0 1 C k (omega (arith, chain-symbols))
+          ∙ ap₂ nodeOf (over-next 0 k ∙ (let z : 0 + k ≡ k = omega arith in z) ∙ sym (spot-chain asked j k (omega arith)))
+          (sym (List·getD-append C P 0 k (omega (arith, chain-symbols))))
+      go (inr l) =
+          ap node (spot-branch asked j (suc k) (omega arith) ∙ (let z : suc k + off ≡ suc (length chain + (off + (k - n))) = omega (arith, chain-nodes) in z))
+          ∙ getD-append-add chain rest (off + (k - n)) noNode
+          ∙ branches-node n (suc n) (asked .paths) j (k - n) b (omega (arith, long))
+          ∙ ap₂ nodeOf (above l)
+          (sym (ap (λ m. getD (C ++ P) m 0) (let z : k ≡ length C + (k - n) = omega (arith, chain-symbols) in z) ∙ getD-append-add C P (k - n) 0))
+
+  pub spot-inside : (j k : ℕ) → j < length (asked .paths) → k ≤ length (lineOf asked j) → spotNode asked j k < pattern asked .size
+  unfolding branchOf
+  spot-inside j k b h = go (less-or (tOf asked) k)
+    where
+      go : (tOf asked < k) ⊎ (k ≤ tOf asked) → spotNode asked j k < pattern asked .size
+      go (inl l) = rw (spot-branch asked j k l) (omega (arith, pattern-size, offset-end (asked .paths) j b, line-length asked j))
+      go (inr l) = rw (spot-chain asked j k l) (omega (arith, pattern-size))
+
+  pub spot-positive : (j k : ℕ) → 0 < spotNode asked j (suc k)
+  spot-positive j k = go (less-or (tOf asked) (suc k))
+    where
+      go : (tOf asked < suc k) ⊎ (suc k ≤ tOf asked) → 0 < spotNode asked j (suc k)
+      go (inl l) = rw (spot-branch asked j (suc k) l) (omega arith)
+      go (inr l) = rw (spot-chain asked j (suc k) l) (omega arith)

@@ -1,11 +1,11 @@
 -- Parts of a line: what stands before an index, between two and after one, put together again; and what the normal form keeps.
-use Prim.Native.Nat.{ℕ, zero, suc, _+_, _-_, _≤_, _<_}
-use mathlib.Core.Path.{_≡_, refl, sym, ap, subst, _∙_}
+use Prim.Native.Nat.{ℕ, zero, suc, _+_, _-_, _≤_}
+use mathlib.Core.Path.{_≡_, refl, sym, ap, _∙_}
 use mathlib.Core.Bool.{Bool}
-use mathlib.Core.List.{List, [], _∷_, _++_, append-assoc}
+use mathlib.Core.List.{List, [], _∷_, _++_}
 use native.Mathlib.Omega.{arith}
 use lib.Dec.{T}
-use lib.ListN.{length, take, drop, take-append-drop, length-append}
+use lib.ListN.{length, take, drop, take-append-drop}
 use lib.Seq.{take-take, take-append-add, drop-append-add}
 use Rattle.meaning.specs.Lists.{every}
 use Rattle.meaning.specs.Paths.{norm, join}

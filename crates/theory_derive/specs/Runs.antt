@@ -1,7 +1,7 @@
 -- Lines that follow one after the other. A part of a proof is proved behind what stands before it, and parts are put together.
-use Prim.Native.Nat.{ℕ, zero, suc, _+_, _-_, _≤_, _<_}
-use mathlib.Core.Path.{_≡_, refl, sym, ap, subst, _∙_}
-use mathlib.Core.List.{List, [], _∷_, _++_, map, append-assoc, append-nil}
+use Prim.Native.Nat.{ℕ, zero, suc, _≤_, _<_}
+use mathlib.Core.Path.{_≡_, refl, sym, subst}
+use mathlib.Core.List.{List, [], _∷_, _++_, append-assoc, append-nil}
 use mathlib.Core.Option.{some}
 use native.Mathlib.Omega.{arith}
 use lib.ListN.{length, take, getElem?}
@@ -9,7 +9,7 @@ use Rattle.meaning.specs.Limits.{inProof}
 use Rattle.meaning.specs.Lists.{Each, end, also}
 use Rattle.meaning.specs.Paths.{Label}
 use Rattle.meaning.specs.Keys.{Key}
-use Rattle.meaning.specs.Rules.{Line, Follows, FollowsAt, FollowsBelow, lineKeys}
+use Rattle.meaning.specs.Rules.{Line, Follows, FollowsBelow, lineKeys}
 use Rattle.theory_paths.specs.Good.{GoodKey}
 
 -- A line of the written proof: its key is well formed and has at most 8 key paths

@@ -1,14 +1,13 @@
 -- Sets of key paths in 01's order, "shorter first, equal lengths by bytes, none twice": a path inserted in its place, and one set united
 -- with another. ARGUMENT, before 1: "putting F in front of every path keeps the order, uniting sets and adding e do not".
-use Prim.Native.Nat.{ℕ, zero, suc, _+_, _≤_, _<_}
-use mathlib.Core.Path.{_≡_, refl, sym, ap, ap₂, subst, _∙_}
+use Prim.Native.Nat.{ℕ, suc, _+_, _≤_, _<_}
+use mathlib.Core.Path.{_≡_, refl, sym, ap, ap₂, subst}
 use mathlib.Core.Logic.{_⊎_, inl, inr, ⊎-elim}
-use mathlib.Core.Bool.{Bool, true, false, cond, _&&_, _||_, not}
+use mathlib.Core.Bool.{Bool, true, false, cond}
 use mathlib.Core.List.{List, [], _∷_, _++_, map, List·Memᴰ, List·Memᴰ·head, List·Memᴰ·tail}
 use native.Mathlib.Omega.{arith}
-use lib.Dec.{T, eqb, ltb, leb, eqb→eq, eqb-refl, lt→ltb, ltb→lt}
+use lib.Dec.{T, eqb, ltb, eqb→eq, eqb-refl, lt→ltb, ltb→lt}
 use lib.ListN.{length, length-append}
-use borrow.Author.Tests.{eq-eqb, ne-eqb, le-ltb}
 use Rattle.meaning.specs.Lists.{Each, end, also, same, lower, before, ascending}
 use Rattle.meaning.specs.Rules.{withEmpty}
 use Rattle.theory_paths.specs.Bools.{and-left, and-right, both, or-left, or-right, or-cases, eqb-of, same-eq, same-refl}

@@ -1,30 +1,29 @@
 -- One step (s, i, j, k) on the lines: how its parts fit together, and which sets its key paths make. ARGUMENT 5.
-use Prim.Native.Nat.{ℕ, zero, suc, _+_, _-_, _≤_, _<_}
+use Prim.Native.Nat.{ℕ, _-_, _≤_, _<_}
 use mathlib.Core.Path.{_≡_, refl, sym, ap, ap₂, subst, _∙_}
-use mathlib.Core.Logic.{_⊎_, inl, inr, ⊎-elim}
-use mathlib.Core.Bool.{Bool, true, false, cond, _&&_, _||_}
-use mathlib.Core.List.{List, [], _∷_, _++_, map, append-assoc, append-nil, List·Memᴰ, List·Memᴰ·head, List·Memᴰ·tail, Memᴰ·map, Memᴰ·cast}
+use mathlib.Core.Bool.{Bool, true, false, cond}
+use mathlib.Core.List.{List, [], _∷_, _++_, map, append-assoc, List·Memᴰ, Memᴰ·map, Memᴰ·cast}
 use native.Mathlib.Omega.{arith}
 use lib.Dec.{T}
-use lib.ListN.{length, take, drop, length-append, length-map, length-take, length-drop, take-append-drop}
+use lib.ListN.{length, take, drop, length-append, length-map, take-append-drop}
 use lib.Seq.{take-append-le, drop-append-le, drop-append-seam}
-use Rattle.meaning.specs.Limits.{inProfile, inProof}
+use Rattle.meaning.specs.Limits.{inProfile}
 use Rattle.meaning.specs.Lists.{Each, end, also, any, isEmpty, ascending}
 use Rattle.meaning.specs.Paths.{Label, norm, join, simple}
 use Rattle.meaning.specs.Keys.{Key}
-use Rattle.meaning.specs.Rules.{BeginsSome, withEmpty}
+use Rattle.meaning.specs.Rules.{BeginsSome}
 use Rattle.meaning.specs.Pattern.{tOf}
 use Rattle.theory_paths.specs.Bools.{any-some, of-true, Each-at, Each-of}
 use Rattle.theory_paths.specs.Normal.{norm-of-normal}
-use Rattle.theory_paths.specs.Simple.{simple-left, simple-right, simple-append, simple-normal}
-use Rattle.theory_paths.specs.Good.{GoodKey, key-path-simple, key-path-length, paths-some, paths-within, paths-ascending, some-path}
-use Rattle.theory_derive.specs.Logic.{each-imp, each-map}
+use Rattle.theory_paths.specs.Simple.{simple-left, simple-append, simple-normal}
+use Rattle.theory_paths.specs.Good.{GoodKey, key-path-simple, key-path-length, paths-within, paths-ascending, some-path}
+use Rattle.theory_derive.specs.Logic.{each-imp, each-map, mem-some}
 use Rattle.theory_derive.specs.Parts.{take-part, part-drop, take-past, drop-past, join-norm}
-use Rattle.theory_derive.specs.Sets.{insert, unite, each-unite, unite-first, unite-second, unite-length, unite-ascending}
-use Rattle.theory_derive.specs.Spots.{chainOf, branchOf, lineOf, part, holdsEmpty, LandsAt, FiresBy}
+use Rattle.theory_derive.specs.Sets.{unite, each-unite, unite-first, unite-second, unite-length, unite-ascending}
+use Rattle.theory_derive.specs.Spots.{chainOf, branchOf, lineOf, part, holdsEmpty, FiresBy}
 use Rattle.theory_derive.specs.Written.{above, toSpot, toT, belowSpot, beyond, united}
-use Rattle.theory_derive.specs.Lines.{OnLine, ReadOff, chain-length, line-length, branch-among, chain-short, begins-read, begins-on, begins-simple, begins-short, among-begins}
-use Rattle.theory_derive.specs.Landing.{Beyond, beyond-of, landed-on, below-begins, below-whole}
+use Rattle.theory_derive.specs.Lines.{OnLine, ReadOff, chain-length, begins-read, begins-on, begins-simple, begins-short, among-begins}
+use Rattle.theory_derive.specs.Landing.{Beyond, beyond-of}
 
 pub map-each : {A B : Type 0} (f g : A → B) {xs : List A} → Each (λ x. f x ≡ g x) xs → map f xs ≡ map g xs
 map-each f g end = refl
@@ -175,11 +174,7 @@ module _ (labels : List Label) (asked s : Key) (i j k : ℕ) (g : GoodKey labels
       go false = omega (arith, paths-within labels inProfile asked g)
 
   pub united-some : 1 ≤ length (united asked s k)
-  united-some = let p = some-path labels inProfile asked g in some-length (united-old (p .1))
-    where
-      some-length : {x : List ℕ} {S : List (List ℕ)} → List·Memᴰ x S → 1 ≤ length S
-      some-length (List·Memᴰ·head e) = omega arith
-      some-length (List·Memᴰ·tail m) = omega arith
+  united-some = let p = some-path labels inProfile asked g in mem-some (united-old (p .1))
 
   -- the keys over U are read off the lines
   pub united-read : Each (ReadOff asked (chainOf asked)) (united asked s k)
