@@ -1,8 +1,8 @@
--- `paths::may_step` meets its contract. Assumes nothing.
-use Rattle.paths.specs.Classes.{step-any, step-label}
+-- `joins::may_step` meets its contract. Assumes nothing.
+use Rattle.joins.specs.Classes.{step-any, step-label}
 use borrow.Author.Needs.{needs}
-use Rattle.paths.proofs.may_step.Statement.{statement}
-use Rattle.paths.proofs.may_step.Tie as tie
+use Rattle.joins.proofs.may_step.Statement.{statement}
+use Rattle.joins.proofs.may_step.Tie as tie
 
 -- src/lib.rt:217:9
 returns : tie.Need-returns

@@ -130,7 +130,7 @@ pub doubled-both : (s t : ℕ) → s ≡ 0 → eqb t 0 ≡ isDoubled s t
 unfolding isDoubled
 doubled-both s t e = sym (ap (λ (x : Bool). x && eqb t 0) (eq-eqb s 0 e))
 
-normal-two : (s t : ℕ) (p : List ℕ) → normal (s ∷ t ∷ p) ≡ (not (isDoubled s t) && normal (t ∷ p))
+pub normal-two : (s t : ℕ) (p : List ℕ) → normal (s ∷ t ∷ p) ≡ (not (isDoubled s t) && normal (t ∷ p))
 unfolding normal isDoubled
 normal-two zero zero p = refl
 normal-two zero (suc b) p = sym (ap (λ (x : Bool). not x && normal p) (lib.Dec.eqb·suc-zero b))

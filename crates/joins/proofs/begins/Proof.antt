@@ -1,10 +1,10 @@
--- `paths::begins` meets its contract. Assumes nothing.
+-- `joins::begins` meets its contract. Assumes nothing.
 use native.Mathlib.Omega.{arith}
-use Rattle.paths.specs.Forms.{too-long, begun}
+use Rattle.joins.specs.Forms.{too-long, begun}
 use lib.ListN.{length-take}
 use borrow.Author.Needs.{needs}
-use Rattle.paths.proofs.begins.Statement.{statement}
-use Rattle.paths.proofs.begins.Tie as tie
+use Rattle.joins.proofs.begins.Statement.{statement}
+use Rattle.joins.proofs.begins.Tie as tie
 
 -- src/lib.rt:149:9
 returns : tie.Need-returns

@@ -1,11 +1,11 @@
--- `paths::normal` meets its contract. Assumes nothing.
+-- `joins::normal` meets its contract. Assumes nothing.
 use native.Mathlib.Omega.{arith}
 use borrow.Author.Needs.{needs}
-use Rattle.paths.specs.Forms.{NormalSo, normal-start, normal-doubled, normal-next, normal-end}
+use Rattle.joins.specs.Forms.{NormalSo, normal-start, normal-doubled, normal-next, normal-end}
 use Prim.Native.Nat.{_-_}
 use lib.ListN.{length}
-use Rattle.paths.proofs.normal.Statement.{statement}
-use Rattle.paths.proofs.normal.Tie as tie
+use Rattle.joins.proofs.normal.Statement.{statement}
+use Rattle.joins.proofs.normal.Tie as tie
 
 abbrev Inv-loop : tie.InvT-loop
 Inv-loop p i₀ i = NormalSo p i

@@ -1,7 +1,7 @@
--- `paths::doubled` meets its contract. Assumes nothing.
-use Rattle.paths.specs.Forms.{doubled-not, doubled-both}
-use Rattle.paths.proofs.doubled.Statement.{statement}
-use Rattle.paths.proofs.doubled.Tie as tie
+-- `joins::doubled` meets its contract. Assumes nothing.
+use Rattle.joins.specs.Forms.{doubled-not, doubled-both}
+use Rattle.joins.proofs.doubled.Statement.{statement}
+use Rattle.joins.proofs.doubled.Tie as tie
 
 -- src/lib.rt:172:9
 returns : tie.Need-returns

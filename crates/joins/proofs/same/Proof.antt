@@ -1,10 +1,10 @@
--- `paths::same` meets its contract: the laws of specs/Forms, one for each return. Assumes nothing.
+-- `joins::same` meets its contract: the laws of specs/Forms, one for each return. Assumes nothing.
 use native.Mathlib.Omega.{arith}
-use Rattle.paths.specs.Forms.{SameSo, same-other-length, same-start, same-other, same-next, same-end}
+use Rattle.joins.specs.Forms.{SameSo, same-other-length, same-start, same-other, same-next, same-end}
 use Prim.Native.Nat.{_-_}
 use lib.ListN.{length}
-use Rattle.paths.proofs.same.Statement.{statement}
-use Rattle.paths.proofs.same.Tie as tie
+use Rattle.joins.proofs.same.Statement.{statement}
+use Rattle.joins.proofs.same.Tie as tie
 
 abbrev Inv-loop : tie.InvT-loop
 Inv-loop a b i₀ i = SameSo a b i

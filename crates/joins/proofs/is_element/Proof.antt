@@ -1,8 +1,8 @@
--- `paths::is_element` meets its contract. Assumes nothing.
-use Rattle.paths.specs.Classes.{element-text, element-filler, element-table}
+-- `joins::is_element` meets its contract. Assumes nothing.
+use Rattle.joins.specs.Classes.{element-text, element-filler, element-table}
 use borrow.Author.Needs.{needs}
-use Rattle.paths.proofs.is_element.Statement.{statement}
-use Rattle.paths.proofs.is_element.Tie as tie
+use Rattle.joins.proofs.is_element.Statement.{statement}
+use Rattle.joins.proofs.is_element.Tie as tie
 
 -- src/lib.rt:203:9
 returns : tie.Need-returns

@@ -1,12 +1,12 @@
--- `paths::valid` meets its contract. Assumes nothing.
+-- `joins::valid` meets its contract. Assumes nothing.
 use borrow.Author.Tests.{not-true, not-false}
 use native.Mathlib.Omega.{arith}
 use borrow.Author.Needs.{needs}
-use Rattle.paths.specs.Classes.{classBy, ValidSo, valid-start, valid-stop, valid-next, valid-end}
+use Rattle.joins.specs.Classes.{classBy, ValidSo, valid-start, valid-stop, valid-next, valid-end}
 use Prim.Native.Nat.{_-_}
 use lib.ListN.{length}
-use Rattle.paths.proofs.valid.Statement.{statement}
-use Rattle.paths.proofs.valid.Tie as tie
+use Rattle.joins.proofs.valid.Statement.{statement}
+use Rattle.joins.proofs.valid.Tie as tie
 
 abbrev Inv-loop : tie.InvT-loop
 Inv-loop p classes i₀ i = ValidSo (classBy classes) p i

@@ -1,10 +1,10 @@
--- `paths::simple` meets its contract. Assumes nothing.
+-- `joins::simple` meets its contract. Assumes nothing.
 use native.Mathlib.Omega.{arith}
-use Rattle.paths.specs.Forms.{SimpleSo, simple-start, simple-any, simple-next, simple-end}
+use Rattle.joins.specs.Forms.{SimpleSo, simple-start, simple-any, simple-next, simple-end}
 use Prim.Native.Nat.{_-_}
 use lib.ListN.{length}
-use Rattle.paths.proofs.simple.Statement.{statement}
-use Rattle.paths.proofs.simple.Tie as tie
+use Rattle.joins.proofs.simple.Statement.{statement}
+use Rattle.joins.proofs.simple.Tie as tie
 
 abbrev Inv-loop : tie.InvT-loop
 Inv-loop p i₀ i = SimpleSo p i
