@@ -14,6 +14,7 @@ pub mod generate;
 pub mod listing;
 pub mod operations;
 pub mod paths;
+pub mod random;
 pub mod records;
 pub mod rules;
 pub mod trees;
