@@ -8,6 +8,8 @@
 //! generate: random and damaged inputs.
 #![allow(dead_code)]
 
+pub mod cases;
+pub mod damage;
 pub mod decide;
 pub mod examples;
 pub mod generate;
@@ -17,6 +19,7 @@ pub mod paths;
 pub mod random;
 pub mod records;
 pub mod rules;
+pub mod stream;
 pub mod trees;
 
 use std::sync::atomic::{AtomicUsize, Ordering};
