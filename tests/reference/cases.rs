@@ -1,5 +1,5 @@
 //! The cases of a run: fixed ones at each limit, then random ones, whole and damaged.
-use super::damage::damaged;
+use super::damage::{damaged, spoiled};
 use super::examples::{bench_profile, question, ROWS};
 use super::generate::*;
 use super::paths::*;
@@ -19,15 +19,19 @@ pub fn cases(seed: u64, count: usize) -> Vec<Case> {
     let mut random = Random::new(seed);
     let mut all = Vec::new();
     examples(&mut all);
+    easily_wrong(&mut all);
     profile_limits(&mut all);
     path_limits(&mut all);
     tree_limits(&mut all);
     proof_limits(&mut all);
     for _ in 0..count {
-        let mut next = random_case(&mut random);
-        if random.chance(1, 3) {
-            let input = random.below(3);
-            next.inputs[input] = damaged(&mut random, &next.inputs[input]);
+        let asked = asked(&mut random);
+        let mut next = random_case(&mut random, &asked);
+        let input = random.below(3);
+        match random.below(6) {
+            0 => next.inputs[input] = damaged(&mut random, &next.inputs[input]),
+            1 => next.inputs[input] = spoiled(&mut random, &asked.world, &next.inputs[input]),
+            _ => {}
         }
         if random.chance(1, 200) {
             next.room = random.one_of(&[0, 1, ROOM - 1, ROOM + 1]);
@@ -50,6 +54,48 @@ fn examples(all: &mut Vec<Case>) {
         all.push(case(REWRITE, &profile, &[], &[]));
         for number in 0..10 {
             all.push(Case { number, ..case(BODY, &profile, &[], &[]) });
+        }
+    }
+}
+
+/// Small cases on which programs that look right go wrong.
+fn easily_wrong(all: &mut Vec<Case>) {
+    let base = labels(3, 0);
+    // Only a label that neither path names tells these two apart.
+    all.push(case(INCLUDE, &base, &[2, 0, 2], &[0, 2, 2]));
+    all.push(case(INCLUDE, &base, &[2, 0, 3], &[0, 2, 3]));
+    // Attributes and other children are two lists: these two elements are equal.
+    let node = |parent: u16, label: u8, value: u16| Node { parent, label, value };
+    let first = [node(NONE, ROOT, 0), node(0, 2, 0), node(1, 3, 5), node(1, TEXT, 7)];
+    let second = [node(0, 2, 0), node(4, TEXT, 7), node(4, 3, 5)];
+    let apart = Key { context: vec![], target: vec![2], paths: vec![vec![]] };
+    all.push(case(KEEP, &base, &key_record(&apart), &write_tree(&[&first[..], &second[..]].concat())));
+    // Text and elements are one list: these two are not.
+    let third = [node(0, 2, 0), node(4, TEXT, 7), node(4, 4, 0)];
+    let fourth = [node(0, 2, 0), node(7, 4, 0), node(7, TEXT, 7)];
+    let mixed = [&first[..], &third[..], &fourth[..]].concat();
+    all.push(case(KEEP, &base, &key_record(&apart), &write_tree(&mixed)));
+    // Both key paths have to agree, in one and the same context.
+    let pairs = [node(NONE, ROOT, 0), node(0, 2, 0), node(1, 3, 1), node(1, TEXT, 1), node(0, 2, 0), node(4, 3, 1), node(4, TEXT, 2)];
+    let both = Key { context: vec![], target: vec![2], paths: vec![vec![TEXT], vec![3]] };
+    all.push(case(KEEP, &base, &key_record(&both), &write_tree(&pairs)));
+    let below = Key { context: vec![2], target: vec![3], paths: vec![vec![]] };
+    all.push(case(KEEP, &base, &key_record(&below), &write_tree(&pairs)));
+    interactions(all, &base);
+}
+
+/// Rule 9 with the second premise's context right, and wrong.
+fn interactions(all: &mut Vec<Case>, base: &[u8]) {
+    let first = Key { context: vec![], target: vec![2], paths: vec![vec![4, 3]] };
+    let new = Key { context: vec![], target: vec![2, 4], paths: vec![vec![3]] };
+    for context in [vec![2], vec![4], vec![], vec![0]] {
+        let second = Key { context, target: vec![4], paths: vec![vec![3]] };
+        let profile = [base.to_vec(), key_record(&first), key_record(&second)].concat();
+        let cite = |number: u16, key: &Key| Line { rule: 0, first: number, second: NONE, key: key.clone() };
+        for (one, two) in [(0, 1), (1, 0), (0, 0), (0, 2), (0, NONE)] {
+            let last = Line { rule: 9, first: one, second: two, key: new.clone() };
+            let proof = write_proof(&[cite(0, &first), cite(1, &second), last]);
+            all.push(case(CHECK_PROOF, &profile, &key_record(&new), &proof));
         }
     }
 }
@@ -193,8 +239,7 @@ fn proof_limits(all: &mut Vec<Case>) {
     }
 }
 
-fn random_case(random: &mut Random) -> Case {
-    let asked = asked(random);
+fn random_case(random: &mut Random, asked: &Asked) -> Case {
     let profile = write_profile(&asked.profile);
     let question = key_record(&asked.question);
     match random.below(16) {
@@ -203,14 +248,15 @@ fn random_case(random: &mut Random) -> Case {
         2 | 3 => {
             let longest = random.one_of(&[3, 8, 32]);
             let p = path(random, &asked.world, longest, true);
-            let near = random.chance(1, 2);
-            let q = if near { normal_form(&p.iter().map(|&s| if random.chance(1, 3) { 0 } else { s }).collect::<Vec<u8>>()) } else { path(random, &asked.world, longest, true) };
+            let q = if random.chance(1, 2) { wider(random, &p) } else { path(random, &asked.world, longest, true) };
             case(INCLUDE, &profile, &p, &q)
         }
         4 | 5 | 6 => {
-            let size = 1 + random.below(40);
+            let size = if random.chance(1, 100) { 200 + random.below(TREE_NODES - 199) } else { 1 + random.below(40) };
             let nodes = tree(random, &asked.world, size);
             let operation = if random.chance(2, 3) { KEEP } else { CHECK_TREE };
+            let near = key_record(&key_on(random, &asked.world, &nodes));
+            let question = if random.chance(2, 3) { near } else { question };
             case(operation, &profile, &question, &write_tree(&nodes))
         }
         7 => {
@@ -220,11 +266,11 @@ fn random_case(random: &mut Random) -> Case {
         }
         8 | 9 => {
             let length = 1 + random.below(16);
-            let lines = derivation(random, &asked, length);
+            let lines = derivation(random, asked, length);
             let last = lines.last().map(|line| line.key.clone()).filter(|key| is_good(key, &asked.profile.classes));
-            case(CHECK_PROOF, &profile, &key_record(&last.unwrap_or(asked.question)), &write_proof(&lines))
+            case(CHECK_PROOF, &profile, &key_record(&last.unwrap_or_else(|| asked.question.clone())), &write_proof(&lines))
         }
-        10 | 11 | 12 => evidence_case(random, &asked, &profile, &question),
+        10 | 11 | 12 => evidence_case(random, asked, &profile, &question),
         _ => case(DECIDE, &profile, &question, &[]),
     }
 }

@@ -97,7 +97,7 @@ pub fn is_good(key: &Key, classes: &Classes) -> bool {
 }
 
 /// A path that holds the given symbols as a word: some parts give way to any-paths.
-fn wider(random: &mut Random, symbols: &[u8]) -> Path {
+pub fn wider(random: &mut Random, symbols: &[u8]) -> Path {
     let mut path = Vec::new();
     let mut at = 0;
     while at < symbols.len() {
@@ -177,8 +177,7 @@ pub fn tree(random: &mut Random, world: &World, size: usize) -> Vec<Node> {
         let parent = if random.chance(1, 2) { *parents.last().unwrap() } else { random.one_of(&parents) };
         if nodes.len() > 1 && random.chance(1, 6) {
             let copied = 1 + random.below(nodes.len() - 1);
-            let above = nodes[copied].parent;
-            copy_below(random, &mut nodes, copied, above, size);
+            copy_below(random, world, &mut nodes, copied, size);
             continue;
         }
         let label = if random.chance(1, 12) {
@@ -191,25 +190,78 @@ pub fn tree(random: &mut Random, world: &World, size: usize) -> Vec<Node> {
         let value = if world.classes.is_last_only(label) { random.below(values) as u16 } else { 0 };
         nodes.push(Node { parent: parent as u16, label, value });
     }
+    // Last, elements with something below them, whose copies then stay as they are.
+    for _ in 0..random.below(3) {
+        let inner: Vec<usize> = (1..nodes.len()).filter(|&node| nodes.iter().any(|each| each.parent as usize == node)).collect();
+        if !inner.is_empty() && size < 1_000 {
+            let copied = random.one_of(&inner);
+            let most = nodes.len() + 20;
+            copy_below(random, world, &mut nodes, copied, most);
+        }
+    }
     nodes
 }
 
-/// Writes a node with what lies below it once more, a value perhaps changed.
-fn copy_below(random: &mut Random, nodes: &mut Vec<Node>, copied: usize, parent: u16, size: usize) {
+/// Writes a node with what lies below it once more, a value perhaps changed, the attributes perhaps
+/// after everything else: apart from each other, both lists keep their order.
+fn copy_below(random: &mut Random, world: &World, nodes: &mut Vec<Node>, copied: usize, size: usize) {
     let last = nodes.len();
-    let mut place = vec![None; last];
+    let mut inside = vec![false; last];
+    let mut order = Vec::new();
     for node in copied..last {
-        let old = nodes[node];
-        let above = if node == copied { Some(parent) } else { place[old.parent as usize] };
-        if let Some(above) = above {
-            if nodes.len() >= size {
-                return;
-            }
-            place[node] = Some(nodes.len() as u16);
-            let changed = old.value != 0 && random.chance(1, 10);
-            let value = if changed { old.value - 1 } else { old.value };
-            nodes.push(Node { parent: above, label: old.label, value });
+        let parent = nodes[node].parent;
+        if node == copied || (parent != NONE && inside[parent as usize]) {
+            inside[node] = true;
+            order.push(node);
         }
+    }
+    if random.chance(1, 2) {
+        order.sort_by_key(|&node| world.classes.of(nodes[node].label) == Some(Class::Attribute));
+    }
+    let mut place = vec![0; last];
+    for node in order {
+        if nodes.len() >= size {
+            return;
+        }
+        let old = nodes[node];
+        let parent = if node == copied { old.parent } else { place[old.parent as usize] };
+        place[node] = nodes.len() as u16;
+        let changed = old.value != 0 && random.chance(1, 10);
+        let value = if changed { old.value - 1 } else { old.value };
+        nodes.push(Node { parent, label: old.label, value });
+    }
+}
+
+/// A key whose targets hold a node of the tree, so that it depends on the tree's values whether it is kept.
+pub fn key_on(random: &mut Random, world: &World, nodes: &[Node]) -> Key {
+    let mut labels: Path = Vec::new();
+    let inner: Vec<usize> = (1..nodes.len()).filter(|&node| nodes.iter().any(|each| each.parent as usize == node)).collect();
+    let mut at = random.below(nodes.len());
+    if !inner.is_empty() && nodes.len() < 1_000 && random.chance(1, 2) {
+        at = random.one_of(&inner);
+    }
+    while nodes[at].parent != NONE {
+        labels.push(nodes[at].label);
+        at = nodes[at].parent as usize;
+    }
+    labels.reverse();
+    // The fillers are in no path: any-paths take them.
+    let symbols: Path = labels.iter().map(|&label| if label < FILLER_ELEMENT { label } else { ANY_PATH }).collect();
+    let cut = random.below(symbols.len() + 1);
+    let mut end = cut + random.below(symbols.len() - cut + 1);
+    while !is_simple(&symbols[end..]) {
+        end += 1;
+    }
+    let mut paths = vec![symbols[end..].to_vec()];
+    if random.chance(1, 4) {
+        paths.push(path(random, world, 2, false));
+    }
+    in_order(&mut paths);
+    let key = Key { context: wider(random, &symbols[..cut.min(end)]), target: wider(random, &symbols[cut.min(end)..end]), paths };
+    if is_good(&key, &world.classes) {
+        key
+    } else {
+        self::key(random, world)
     }
 }
 
@@ -331,7 +383,8 @@ fn interaction(random: &mut Random, lines: &[Line]) -> Option<Line> {
             let (one, two) = (&first.key, &second.key);
             let mut lifted: Vec<Path> = two.paths.iter().map(|each| join(&two.target, each)).collect();
             in_order(&mut lifted);
-            if is_simple(&two.target) && two.context == join(&one.context, &one.target) && lifted == one.paths {
+            let is_near = two.context == join(&one.context, &one.target) || random.chance(1, 20);
+            if is_simple(&two.target) && is_near && lifted == one.paths {
                 let target = join(&one.target, &two.target);
                 let key = Key { context: one.context.clone(), target, paths: two.paths.clone() };
                 if key.target.len() <= LINE_SIZES.path {
