@@ -3,7 +3,8 @@
 //
 // A case is a type (1: a run and a path; 2: two paths), two lengths of two bytes each, the first bytes, the second bytes.
 ghost use Prim.Native.Nat.{_<_};
-use libc::{STDIN_FILENO, STDOUT_FILENO};
+use libc::STDIN_FILENO;
+use libc::STDOUT_FILENO;
 
 const RUN_AND_PATH: u8 = 1;
 
