@@ -65,21 +65,25 @@ fn answer_parts(sort: u8, n: usize, m: usize, space: &mut [u8]) -> bool {
 }
 
 // Reads one case, writes its line, and answers whether to go on. Keeping the loop out of it keeps the proof short.
-fn answer_case() -> bool {
+fn answer_case(space: &mut [u8]) -> bool {
     let mut head = [0u8; 5];
     if io::read_full(STDIN_FILENO, &mut head) < 5 {
         return false;
     }
     let n = number(head[1], head[2]);
     let m = number(head[3], head[4]);
-    let mut space = io::large_buffer();
-    answer_parts(head[0], n, m, &mut space)
+    answer_parts(head[0], n, m, space)
 }
 
 // A proved loop has to end, and nothing says that the input does. So the loop counts its turns down, from a number that no run uses up.
-fn main() {
+fn answer_all(space: &mut [u8]) {
     let mut turns = u64::MAX;
-    while turns > 0 && answer_case() {
+    while turns > 0 && answer_case(space) {
         turns -= 1;
     }
+}
+
+fn main() {
+    let mut space = io::large_buffer();
+    answer_all(&mut space);
 }

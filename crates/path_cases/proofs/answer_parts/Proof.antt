@@ -3,64 +3,46 @@ use lib.Seq.{length-take-le}
 use borrow.Author.Needs.{needs}
 use Rattle.path_cases.proofs.answer_parts.Statement.{statement}
 use Rattle.path_cases.proofs.answer_parts.Tie as tie
-use Rattle.path_cases.proofs.answer_parts.Reads as reads
-use Rattle.path_cases.proofs.answer_parts.Lts as lts
-use Rattle.io.proofs.read_full.Reads as read-full-reads
-use Rattle.path_cases.proofs.write_answer.Reads as write-answer-reads
 
--- src/main.rt:53:9
 returns : tie.Need-returns
 returns c = search needs
 
--- src/main.rt:55:12
 sub-if2 : tie.Need-sub-if2
 sub-if2 c = search needs
 
--- src/main.rt:56:9
 returns-2 : tie.Need-returns-2
 returns-2 c = search needs
 
--- src/main.rt:58:18
 add-length : tie.Need-add-length
 add-length c = search needs
 
--- src/main.rt:59:43
 slice-relend-prefix-read-full : tie.Need-slice-relend-prefix-read-full
 slice-relend-prefix-read-full c = search needs
 
--- src/main.rt:59:43
 slice-aggregate-read-full : tie.Need-slice-aggregate-read-full
 slice-aggregate-read-full c = sym (length-take-le _ _ (search needs))
 
--- src/main.rt:59:9
 read-full-requires : tie.Need-read-full-requires
 read-full-requires c κs = search needs
 
--- src/main.rt:61:9
 same-length : tie.Need-same-length
 same-length c = search needs
 
--- src/main.rt:61:9
 returns-3 : tie.Need-returns-3
 returns-3 c = search needs
 
--- src/main.rt:63:24
 slice-reshare-prefix-write-answer : tie.Need-slice-reshare-prefix-write-answer
 slice-reshare-prefix-write-answer c = search needs
 
--- src/main.rt:63:24
 slice-aggregate-write-answer : tie.Need-slice-aggregate-write-answer
 slice-aggregate-write-answer c = sym (length-take-le _ _ (search needs))
 
--- src/main.rt:63:5
 write-answer-requires : tie.Need-write-answer-requires
 write-answer-requires c κs = search needs
 
--- src/main.rt:51:1
 same-length-2 : tie.Need-same-length-2
 same-length-2 c = search needs
 
--- src/main.rt:51:1
 returns-4 : tie.Need-returns-4
 returns-4 c = search needs
 

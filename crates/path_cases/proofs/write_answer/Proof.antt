@@ -3,56 +3,40 @@ use lib.Seq.{length-take-le}
 use borrow.Author.Needs.{needs}
 use Rattle.path_cases.proofs.write_answer.Statement.{statement}
 use Rattle.path_cases.proofs.write_answer.Tie as tie
-use Rattle.path_cases.proofs.write_answer.Reads as reads
-use Rattle.path_cases.proofs.write_answer.Lts as lts
-use Rattle.io.proofs.write_all.Reads as write-all-reads
-use Rattle.path_cases.proofs.answer.Reads as answer-reads
 
--- src/main.rt:42:9
 returns : tie.Need-returns
 returns c = search needs
 
--- src/main.rt:44:21
 slice-aggregate-answer : tie.Need-slice-aggregate-answer
 slice-aggregate-answer c = sym (length-take-le _ _ (search needs))
 
--- src/main.rt:44:34
 sub-answer : tie.Need-sub-answer
 sub-answer c = search needs
 
--- src/main.rt:44:34
 part-answer-start : tie.Need-part-answer-start
 part-answer-start c = search needs
 
--- src/main.rt:44:34
 part-answer-end : tie.Need-part-answer-end
 part-answer-end c = search needs
 
--- src/main.rt:44:8
 answer-requires : tie.Need-answer-requires
 answer-requires c κs = search needs
 
--- src/main.rt:45:45
 slice-aggregate-write-all : tie.Need-slice-aggregate-write-all
 slice-aggregate-write-all c = search needs
 
--- src/main.rt:45:9
 write-all-requires : tie.Need-write-all-requires
 write-all-requires c κs = search needs
 
--- src/main.rt:45:9
 returns-2 : tie.Need-returns-2
 returns-2 c = search needs
 
--- src/main.rt:47:34
 slice-aggregate-write-all-2 : tie.Need-slice-aggregate-write-all-2
 slice-aggregate-write-all-2 c = search needs
 
--- src/main.rt:47:5
 write-all-requires-2 : tie.Need-write-all-requires-2
 write-all-requires-2 c κs = search needs
 
--- src/main.rt:40:1
 returns-3 : tie.Need-returns-3
 returns-3 c = search needs
 
