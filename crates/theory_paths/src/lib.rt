@@ -1,0 +1,1 @@
+// Theorems only: ARGUMENT §1, words and paths. This crate has no code.
