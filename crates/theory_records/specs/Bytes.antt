@@ -46,9 +46,9 @@ wordBytes-word l i bs =
     let a : getD l i 0 < 256 = bytes-at bs i in
     let b : getD l (i + 1) 0 < 256 = bytes-at bs (i + 1) in
     let low : (getD l i 0 + 256 * getD l (i + 1) 0) % 256 ≡ getD l i 0 =
-        add-mul-mod-self-left (getD l i 0) 256 (getD l (i + 1) 0) ∙ mod-eq-of-lt a in
+    add-mul-mod-self-left (getD l i 0) 256 (getD l (i + 1) 0) ∙ mod-eq-of-lt a in
     let quotient : (getD l i 0 + 256 * getD l (i + 1) 0) / 256 ≡ getD l (i + 1) 0 =
-        add-mul-div-left (getD l i 0) (getD l (i + 1) 0) (omega arith) ∙ (omega (arith, div-eq-of-lt a)) in
+    add-mul-div-left (getD l i 0) (getD l (i + 1) 0) (omega arith) ∙ (omega (arith, div-eq-of-lt a)) in
     rw (low, quotient, mod-eq-of-lt b)
 
 pub word-below : (l : List ℕ) (i : ℕ) → Bytes l → word l i < 65536

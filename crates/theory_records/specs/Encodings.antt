@@ -114,7 +114,7 @@ written-whole kind body rest fits small =
     let all : List ℕ = recordBytes kind body ++ rest in
     let long : recordLength all ≡ 4 + length body = written-length kind body rest fits in
     let size : length all ≡ 4 + length body + length rest =
-        length-append (recordBytes kind body) rest ∙ ap (λ (n : ℕ). n + length rest) (bytes-length kind body) in
+    length-append (recordBytes kind body) rest ∙ ap (λ (n : ℕ). n + length rest) (bytes-length kind body) in
     let one : leb 4 (length all) ≡ true = le-leb 4 (length all) (omega arith) in
     let two : leb 4 (recordLength all) ≡ true = le-leb 4 (recordLength all) (omega arith) in
     let three : leb (recordLength all) (length all) ≡ true = le-leb (recordLength all) (length all) (omega arith) in

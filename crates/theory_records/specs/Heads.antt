@@ -52,9 +52,9 @@ record-written (a ∷ b ∷ c ∷ d ∷ l) bs h long within =
     let front : wordBytes (4 + length (recordBody all)) ≡ a ∷ b ∷ [] = ap wordBytes size ∙ wordBytes-word all 0 bs in
     let kind : wordBytes (recordKind all) ≡ c ∷ d ∷ [] = wordBytes-word all 2 bs in
     let behind : drop (recordLength all) all ≡ drop (recordLength all - 4) l =
-        ap (λ (k : ℕ). drop k all) (four (recordLength all) long) in
+    ap (λ (k : ℕ). drop k all) (four (recordLength all) long) in
     let split : recordBody all ++ drop (recordLength all) all ≡ l =
-        ap (λ (r : List ℕ). recordBody all ++ r) behind ∙ take-append-drop (recordLength all - 4) l in
+    ap (λ (r : List ℕ). recordBody all ++ r) behind ∙ take-append-drop (recordLength all - 4) l in
     rw (front, kind) (ap (λ (r : List ℕ). a ∷ b ∷ c ∷ d ∷ r) split)
 
 -- an encoding is read back

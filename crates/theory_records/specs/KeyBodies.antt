@@ -64,14 +64,14 @@ paths-written (suc count) l ps r e =
     (record {
       number = ap suc (more .number);
       bytes =
-        append-assoc (pathBytes (w .a .0)) (flatten (map pathBytes (v .a .0))) (v .a .1)
-        ∙ (ap (λ (x : List ℕ). pathBytes (w .a .0) ++ x) (more .bytes) ∙ here);
+          append-assoc (pathBytes (w .a .0)) (flatten (map pathBytes (v .a .0))) (v .a .1)
+          ∙ (ap (λ (x : List ℕ). pathBytes (w .a .0) ++ x) (more .bytes) ∙ here);
     })
 
 pub paths-taken : (ps : List (List ℕ)) (r : List ℕ) → takePaths (length ps) (flatten (map pathBytes ps) ++ r) ≡ some (ps, r)
 unfolding takePaths flatten andThen
 paths-taken [] r = refl
-paths-taken (p ∷ ps) r = 
+paths-taken (p ∷ ps) r =
     rw (append-assoc (pathBytes p) (flatten (map pathBytes ps)) r, path-taken p (flatten (map pathBytes ps) ++ r), paths-taken ps r)
 
 pub set-written : (l : List ℕ) (ps : List (List ℕ)) (r : List ℕ) → takeSet l ≡ some (ps, r)
@@ -97,8 +97,8 @@ key-parts : (body r₁ r₂ r₃ c t : List ℕ) (ps : List (List ℕ)) → path
 unfolding keyBody
 key-parts body r₁ r₂ r₃ c t ps e₁ e₂ e₃ e₄ =
     let last : length ps ∷ flatten (map pathBytes ps) ≡ r₂ =
-        ap {B = List ℕ} (λ (l : List ℕ). length ps ∷ l) (sym (append-nil (flatten (map pathBytes ps)))
-        ∙ ap (λ (l : List ℕ). flatten (map pathBytes ps) ++ l) (sym e₄)) ∙ e₃ in
+    ap {B = List ℕ} (λ (l : List ℕ). length ps ∷ l) (sym (append-nil (flatten (map pathBytes ps)))
+    ∙ ap (λ (l : List ℕ). flatten (map pathBytes ps) ++ l) (sym e₄)) ∙ e₃ in
     rw (last, e₂, e₁)
 
 -- a body that is read as a key is that key's body

@@ -117,10 +117,10 @@ written-kept bytes n p l g h e =
     (record {
       small = bytes-drop (recordLength l) (g .small);
       are =
-        rw (flat-more labelBytes (p .labels) x)
-        (one-label A (labelBytes x) K rest l bytes (ap (λ (ks : List Key). flatten (map keyBytes ks)) (a .beforeKeys))
-        (label-written l (g .small) (a .isWhole) (a .kind))
-        (g .are));
+          rw (flat-more labelBytes (p .labels) x)
+          (one-label A (labelBytes x) K rest l bytes (ap (λ (ks : List Key). flatten (map keyBytes ks)) (a .beforeKeys))
+          (label-written l (g .small) (a .isWhole) (a .kind))
+          (g .are));
     }))
     (λ (a : KeyRecordAccepted p l).
     let x : Key = keyIn (recordBody l) in
@@ -128,8 +128,8 @@ written-kept bytes n p l g h e =
     (record {
       small = bytes-drop (recordLength l) (g .small);
       are =
-        rw (flat-more keyBytes (p .keys) x)
-        (one-key A (keyBytes x) K rest l bytes (key-record-written l (g .small) (a .isWhole) (a .kind)) (g .are));
+          rw (flat-more keyBytes (p .keys) x)
+          (one-key A (keyBytes x) K rest l bytes (key-record-written l (g .small) (a .isWhole) (a .kind)) (g .are));
     }))
     (profile-accepted p l e)
 
@@ -168,8 +168,8 @@ pub profile-written : (bytes : List ℕ) → Bytes bytes → profileWalked bytes
 unfolding profileIn profileWalked
 profile-written bytes small e =
     let w =
-        walk-keeps profileTests profileNext (ProfileWritten bytes) profile-long (written-kept bytes) 0 noProfile bytes
-        (record { small = small; are = unfold profileBytes flatten in refl }) in
+    walk-keeps profileTests profileNext (ProfileWritten bytes) profile-long (written-kept bytes) 0 noProfile bytes
+    (record { small = small; are = unfold profileBytes flatten in refl }) in
     sym (append-nil _) ∙ subst (λ (rest : List ℕ). profileBytes (profileIn bytes) ++ rest ≡ bytes) (w .sound e) (w .held .are)
 
 -- one encoding for each profile

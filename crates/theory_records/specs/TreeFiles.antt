@@ -73,7 +73,7 @@ below-says labels nodes x e =
     let up : x .parent < length nodes = ltb-true _ _ (a .0) in
     let last : getD (nodes ++ (x ∷ [])) (length nodes) noNode ≡ x = getD-append-seam nodes x [] noNode in
     let old : getD (nodes ++ (x ∷ [])) (x .parent) noNode ≡ getD nodes (x .parent) noNode =
-        List·getD-append nodes (x ∷ []) noNode (x .parent) up in
+    List·getD-append nodes (x ∷ []) noNode (x .parent) up in
     record {
       above = rw last up;
       inside = rw (last, old) (a .1);
@@ -87,7 +87,7 @@ below-stays labels nodes x i h g =
     let same : getD (nodes ++ (x ∷ [])) i noNode ≡ getD nodes i noNode = List·getD-append nodes (x ∷ []) noNode i h in
     let up : getD nodes i noNode .parent < length nodes = omega (arith, g .above) in
     let old : getD (nodes ++ (x ∷ [])) (getD nodes i noNode .parent) noNode ≡ getD nodes (getD nodes i noNode .parent) noNode =
-        List·getD-append nodes (x ∷ []) noNode (getD nodes i noNode .parent) up in
+    List·getD-append nodes (x ∷ []) noNode (getD nodes i noNode .parent) up in
     record { above = rw same (g .above); inside = rw (same, old) (g .inside); known = rw same (g .known); value = rw same (g .value) }
 
 good-more : (labels : List Label) (nodes : List Node) (x : Node) → NodesGood labels nodes
@@ -98,12 +98,12 @@ good-more labels (y ∷ nodes) x g e =
     record {
       root = λ h. g .root (omega arith);
       below =
-        λ i h k.
-        let small : i ≤ length (y ∷ nodes) = omega (arith, length-more (y ∷ nodes) x) in
-        ⊎-elim
-        (λ (q : i ≡ length (y ∷ nodes)). subst (λ (j : ℕ). NodeBelow labels (y ∷ nodes ++ (x ∷ [])) j) (sym q) (below-says labels (y ∷ nodes) x e))
-        (λ (q : i < length (y ∷ nodes)). below-stays labels (y ∷ nodes) x i q (g .below i h q))
-        (eq-or-lt-of-le small);
+          λ i h k.
+          let small : i ≤ length (y ∷ nodes) = omega (arith, length-more (y ∷ nodes) x) in
+          ⊎-elim
+          (λ (q : i ≡ length (y ∷ nodes)). subst (λ (j : ℕ). NodeBelow labels (y ∷ nodes ++ (x ∷ [])) j) (sym q) (below-says labels (y ∷ nodes) x e))
+          (λ (q : i < length (y ∷ nodes)). below-stays labels (y ∷ nodes) x i q (g .below i h q))
+          (eq-or-lt-of-le small);
     }
 
 -- What holds of the nodes read so far
@@ -133,19 +133,19 @@ tree-kept labels bytes n nodes l g h e =
     record {
       counted = omega (arith, g .counted);
       left =
-        ap (λ (k : ℕ). drop k l) nine
-        ∙ (ap (λ (r : List ℕ). drop 9 r) (g .left)
-        ∙ (drop-drop 9 (9 * length nodes) bytes ∙ ap (λ (k : ℕ). drop k bytes) (nine-more (length nodes) _ more)));
+          ap (λ (k : ℕ). drop k l) nine
+          ∙ (ap (λ (r : List ℕ). drop 9 r) (g .left)
+          ∙ (drop-drop 9 (9 * length nodes) bytes ∙ ap (λ (k : ℕ). drop k bytes) (nine-more (length nodes) _ more)));
       within = omega (arith, a .isWhole .within, g .within);
       few = omega (arith, a .room);
       are =
-        λ i k.
-        ⊎-elim
-        (λ (q : i ≡ length nodes).
-        ap (λ (j : ℕ). getD (nodes ++ (x ∷ [])) j noNode) q
-        ∙ (getD-append-seam nodes x [] noNode ∙ (read-node-at bytes (length nodes) l (g .left) nine ∙ ap (nodeAt bytes) (sym q))))
-        (λ (q : i < length nodes). List·getD-append nodes (x ∷ []) noNode i q ∙ g .are i q)
-        (eq-or-lt-of-le (at-most i _ _ more k));
+          λ i k.
+          ⊎-elim
+          (λ (q : i ≡ length nodes).
+          ap (λ (j : ℕ). getD (nodes ++ (x ∷ [])) j noNode) q
+          ∙ (getD-append-seam nodes x [] noNode ∙ (read-node-at bytes (length nodes) l (g .left) nine ∙ ap (nodeAt bytes) (sym q))))
+          (λ (q : i < length nodes). List·getD-append nodes (x ∷ []) noNode i q ∙ g .are i q)
+          (eq-or-lt-of-le (at-most i _ _ more k));
       good = good-more labels nodes x (g .good) (a .good);
     }
 
@@ -183,7 +183,7 @@ tree-accepts labels bytes e =
     let w = tree-stop labels bytes in
     let all : [] ≡ drop (9 * length (nodesIn labels bytes)) bytes = sym (w .sound (two .0)) ∙ w .held .left in
     let none : 0 ≡ length bytes - 9 * length (nodesIn labels bytes) =
-        ap length all ∙ length-drop (9 * length (nodesIn labels bytes)) bytes in
+    ap length all ∙ length-drop (9 * length (nodesIn labels bytes)) bytes in
     let size : length bytes ≡ 9 * length (nodesIn labels bytes) = omega (arith, w .held .within) in
     let any : 0 < length bytes = not-empty bytes (three .0) in
     record { size = size; some = omega arith; few = w .held .few; are = w .held .are; good = w .held .good }
@@ -229,7 +229,7 @@ tree-is-tree labels between nodes h g =
       some = h;
       root = root-says (getD nodes 0 noNode) (g .root h) .1;
       rest =
-        λ n pos inside.
-        let b = g .below n pos inside in
-        record { above = b .above; inside = is-element _ (b .inside); notRoot = label-not-root labels between _ (b .known) };
+          λ n pos inside.
+          let b = g .below n pos inside in
+          record { above = b .above; inside = is-element _ (b .inside); notRoot = label-not-root labels between _ (b .known) };
     }

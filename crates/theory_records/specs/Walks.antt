@@ -62,7 +62,7 @@ pub record Stopped {S : Type 0} (tests : S → List ℕ → List (ℕ × Bool)) 
 module _ {S : Type 0} (tests : S → List ℕ → List (ℕ × Bool)) (next : S → List ℕ → S) (P : ℕ → S → List ℕ → Type 0)
     (long : (s : S) (l : List ℕ) → 0 < length l → firstOf (tests s l) ≡ 0 → 1 ≤ recordLength l)
     (kept : (n : ℕ) (s : S) (l : List ℕ) → P n s l → 0 < length l → firstOf (tests s l) ≡ 0
-        → P (suc n) (next s l) (drop (recordLength l) l)) where
+    → P (suc n) (next s l) (drop (recordLength l) l)) where
   keeps-from : (k n : ℕ) (s : S) (l : List ℕ) → P n s (drop k l) → Stopped tests P (walk tests next k n s l)
   unfolding walk
   keeps-from zero n s [] p = record { rest = []; held = p; sound = λ e. refl; refused = λ h. absurd (omega arith) }
@@ -81,6 +81,7 @@ module _ {S : Type 0} (tests : S → List ℕ → List (ℕ × Bool)) (next : S 
           let less : recordLength (b ∷ l) - 1 ≡ m = omega arith in
           subst (λ (k : ℕ). P (suc n) (next s (b ∷ l)) (drop k l)) (sym less)
           (subst (λ (k : ℕ). P (suc n) (next s (b ∷ l)) (drop k (b ∷ l))) q (kept n s (b ∷ l) p (omega arith) e))
+
       go : (r : ℕ) → firstOf (tests s (b ∷ l)) ≡ r
           → (firstOf (tests s (b ∷ l)) ≡ 0
           → Stopped tests P (walk tests next (recordLength (b ∷ l) - 1) (suc n) (next s (b ∷ l)) l))

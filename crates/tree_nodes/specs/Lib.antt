@@ -2,6 +2,7 @@
 pub mod FileTable
 pub mod Classes
 pub mod Links
+pub mod Ready
 pub mod Rest
 pub mod Seek
 pub mod Zeros

@@ -14,6 +14,7 @@ use Rattle.tree_nodes.specs.Rest.{rest, IsKind, rest-no, rest-yes, linke
 pub record Passed (κ : ℕ → Class) (t : Table) (attribute : Bool) (i n : ℕ) : Type 0 where
   pub inside : n < t .size
   pub child : 0 < n → (0 < i) × Child t (t .parent i) n
+  pub later : 0 < n → i ≤ n
   pub same : rest κ t attribute (t .parent i) i ≡ rest κ t attribute (t .parent i) n
 
 -- .. and node r, where it is not 0, is of the kind
@@ -47,7 +48,7 @@ beq-false false false e h = true≢false e
 module _ (κ : ℕ → Class) (t : Table) (attribute : Bool) where
   pub passed-start : (i : ℕ) → i < t .size → Passed κ t attribute i i
   passed-start i b =
-      record { inside = b; child = λ p. (p, record { notRoot = p; inside = b; below = refl }); same = refl }
+      record { inside = b; child = λ p. (p, record { notRoot = p; inside = b; below = refl }); later = λ p. omega arith; same = refl }
 
   -- the next sibling, or 0
   pub passed-next : (next : List ℕ) (i n r : ℕ) → Nexts t next → Passed κ t attribute i n → 0 < n → (IsKind κ t attribute n → ⊥)
@@ -58,6 +59,7 @@ module _ (κ : ℕ → Class) (t : Table) (attribute : Bool) where
       record {
         inside = within r l (p .inside);
         child = λ h. (c .0, l .child h .0);
+        later = λ h. let g = l .child h .1 in let f = p .later q in omega arith;
         same = p .same ∙ rest-no κ t attribute (t .parent i) n r q (p .inside) k l;
       }
     where

@@ -10,14 +10,19 @@ ghost use Rattle.tree_nodes.specs.FileTable.{fileTable, classBy};
 pub const NODES: usize = 4096;
 // 9 bytes a node record: the head's 4, and the body's 5.
 pub const NODE_BYTES: usize = 9;
+
 const PARENT_AT: usize = 4;
+
 const LABEL_AT: usize = 6;
+
 const VALUE_AT: usize = 7;
 // How many values a byte has.
 const BYTE: usize = 256;
 // "Label 1 is text"; "202 a filler attribute"; "class (1 element, 2 attribute)"
 const TEXT: usize = 1;
+
 const FILLER_ATTRIBUTE: usize = 202;
+
 const ATTRIBUTE_CLASS: usize = 2;
 
 fn wide(b: u8) -> usize

@@ -1,6 +1,9 @@
 // Child links, built once backwards over the table: children stand after their parents.
-use crate::fields::{is_attribute, label, parent, size, NODES};
-
+use crate::fields::NODES;
+use crate::fields::is_attribute;
+use crate::fields::label;
+use crate::fields::parent;
+use crate::fields::size;
 ghost use mathlib.Core.Path.{_≡_};
 ghost use Prim.Native.Nat.{ℕ, _+_, _*_, _<_, _≤_};
 ghost use lib.ListN.{length, getD};
@@ -52,7 +55,13 @@ pub fn link(tree: &[u8], classes: &[u8; 256]) -> Links
 }
 
 // The first node of a kind (attribute, or not) among node i and its next siblings; 0 where there is none.
-pub fn seek(tree: &[u8], classes: &[u8; 256], next: &[u16; 4096], i: usize, attribute: bool) -> usize
+pub fn seek(
+    tree: &[u8],
+    classes: &[u8; 256],
+    next: &[u16; 4096],
+    i: usize,
+    attribute: bool,
+) -> usize
     requires { ⌜ TreeBytes (now classes) (now tree) ⌝ }
     requires { ⌜ Nexts (fileTable (now tree)) (now next) × (i < fileTable (now tree) .size) ⌝ }
     ensures { λ r. ⌜ Sought (classBy (now (classes .entry))) (fileTable (now (tree .entry))) attribute i r ⌝ }

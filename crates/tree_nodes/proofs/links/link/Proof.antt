@@ -78,10 +78,14 @@ loop-less c = omega arith
 
 -- src/links.rt:45:5
 loop-again : tie.Need-loop-again Inv-loop μ-loop
-loop-again c = let p = c .before .before .before .before .before .before .before .pre in
-    (omega arith, omega arith, simp length-set (c .before .before .loop .inv .2), simp length-set (c .before .before .loop .inv .3),
-    linked-step _ _ _ _ _ (c .before .loop-test .taken) (c .before .before .loop .inv .1) (let f = p .few in omega arith) (let f = p .few in omega arith) (c .parent .ensures .0)
-    (omega (arith, p .above (c .before .before .loop .i - 1) (omega arith) (omega arith))) (c .before .before .loop .inv .4))
+loop-again c = let p = c .before .before .before .before .before .before .before .pre in (
+  omega arith,
+  omega arith,
+  simp length-set (c .before .before .loop .inv .2),
+  simp length-set (c .before .before .loop .inv .3),
+  linked-step _ _ _ _ _ (c .before .loop-test .taken) (c .before .before .loop .inv .1) (let f = p .few in omega arith) (let f = p .few in omega arith) (c .parent .ensures .0)
+      (omega (arith, p .above (c .before .before .loop .i - 1) (omega arith) (omega arith))) (c .before .before .loop .inv .4),
+)
 
 -- src/links.rt:38:1
 returns : tie.Need-returns Inv-loop μ-loop
