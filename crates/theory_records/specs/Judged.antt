@@ -15,27 +15,10 @@ use Rattle.meaning.specs.Trees.{Node}
 use Rattle.meaning.specs.Keys.{Key}
 use Rattle.meaning.specs.Rules.{Line}
 use Rattle.meaning.specs.Records.{recordLength, recordKind, recordBody, readLabel, keyIn, readNode, readLine}
-use Rattle.meaning.specs.Refusals.{firstOf, tooMany, whole, goodLabel, goodSymbols, goodSet, allValid, keyTests, Profile, inProfileOrder, profileTests, questionTests, goodRoot, goodBelow, treeTests, lineTests}
+use Rattle.meaning.specs.Refusals.{firstOf, tooMany, whole, goodLabel, keyTests, Profile, inProfileOrder, profileTests, questionTests, goodRoot, goodBelow, treeTests, lineTests}
+use Rattle.theory_paths.specs.Good.{GoodKey, good-of-tests}
 use Rattle.theory_records.specs.Tests.{both, either, never, and-true, first-none, first-fails, not-holds}
 use Rattle.theory_records.specs.Heads.{Whole, whole-says}
-
--- 4, 5 and 6 are not given
-pub record KeyAccepted (labels : List Label) (limits : KeyLimits) (k : Key) : Type 0 where
-  pub symbols : goodSymbols labels limits k ≡ true
-  pub set : goodSet limits k ≡ true
-  pub valid : allValid labels k ≡ true
-
-pub key-tests : (labels : List Label) (limits : KeyLimits) (k : Key) → firstOf (keyTests labels limits k) ≡ 0 → KeyAccepted labels limits k
-unfolding keyTests
-key-tests labels limits k e =
-    let four = first-none _ _ _ e in
-    let five = first-none _ _ _ (four .1) in
-    let six = first-none _ _ _ (five .1) in
-    record { symbols = not-false _ (four .0); set = not-false _ (five .0); valid = not-false _ (six .0) }
-
-pub key-tests-pass : (labels : List Label) (limits : KeyLimits) (k : Key) → KeyAccepted labels limits k → firstOf (keyTests labels limits k) ≡ 0
-unfolding keyTests firstOf
-key-tests-pass labels limits k a = rw (a .symbols, a .set, a .valid)
 
 -- 7 is not given to a record of the counted kind: there is room for it
 pub room-says : (kind limit count : ℕ) (l : List ℕ) → 4 ≤ length l → recordKind l ≡ kind → tooMany kind limit count l ≡ false → count < limit
@@ -44,6 +27,24 @@ room-says kind limit count l h k e =
     let head : leb 4 (length l) ≡ true = le-leb 4 (length l) h in
     let same : eqb (recordKind l) kind ≡ true = eq-eqb (recordKind l) kind k in
     leb-false limit count (rw (head, same) at e)
+
+and-false : (a : Bool) → a && false ≡ false
+and-false true = refl
+and-false false = refl
+
+pub room-left : (kind limit count : ℕ) (l : List ℕ) → count < limit → tooMany kind limit count l ≡ false
+unfolding tooMany
+room-left kind limit count l h = rw (lt-leb limit count h) (and-false (leb 4 (length l) && eqb (recordKind l) kind))
+
+pub none-empty : {A : Type 0} (l : List A) → length l ≡ 0 → isEmpty l ≡ true
+unfolding isEmpty
+none-empty [] e = refl
+none-empty (x ∷ l) e = absurd (omega arith)
+
+pub some-empty : {A : Type 0} (l : List A) → 0 < length l → isEmpty l ≡ false
+unfolding isEmpty
+some-empty [] h = absurd (omega arith)
+some-empty (x ∷ l) h = refl
 
 pub empty-says : {A : Type 0} (l : List A) → isEmpty l ≡ true → l ≡ []
 unfolding isEmpty
@@ -62,7 +63,7 @@ pub record KeyRecordAccepted (p : Profile) (l : List ℕ) : Type 0 where
   pub isWhole : Whole l
   pub kind : recordKind l ≡ 2
   pub room : length (p .keys) < 64
-  pub good : KeyAccepted (p .labels) inProfile (keyIn (recordBody l))
+  pub good : GoodKey (p .labels) inProfile (keyIn (recordBody l))
 
 pub profile-accepted : (p : Profile) (l : List ℕ) → firstOf (profileTests p l) ≡ 0 → LabelAccepted p l ⊎ KeyRecordAccepted p l
 unfolding profileTests inProfileOrder
@@ -93,7 +94,7 @@ profile-accepted p l e =
           isWhole = w;
           kind = two;
           room = room-says 2 64 (length (p .keys)) l (w .head) two seven;
-          good = key-tests _ _ _ (rw two at rest);
+          good = good-of-tests _ _ _ (rw two at rest);
         })
 
 -- A question's record: it is the first
@@ -101,7 +102,7 @@ pub record QuestionAccepted (labels : List Label) (read : List Key) (l : List �
   pub isWhole : Whole l
   pub kind : recordKind l ≡ 2
   pub alone : read ≡ []
-  pub good : KeyAccepted labels inProfile (keyIn (recordBody l))
+  pub good : GoodKey labels inProfile (keyIn (recordBody l))
 
 pub question-accepted : (labels : List Label) (read : List Key) (l : List ℕ) → firstOf (questionTests labels read l) ≡ 0 → QuestionAccepted labels read l
 unfolding questionTests
@@ -113,7 +114,7 @@ question-accepted labels read l e =
       isWhole = whole-says l (not-false _ (one .0));
       kind = eqb-true _ _ (parts .0);
       alone = empty-says read (parts .1);
-      good = key-tests _ _ _ (two .1);
+      good = good-of-tests _ _ _ (two .1);
     }
 
 -- A node record of a tree
@@ -144,7 +145,7 @@ pub record LineAccepted (labels : List Label) (lines : List Line) (l : List ℕ)
   pub isWhole : Whole l
   pub kind : recordKind l ≡ 4
   pub room : length lines < 256
-  pub good : KeyAccepted labels inProof (readLine (recordBody l) .key)
+  pub good : GoodKey labels inProof (readLine (recordBody l) .key)
 
 pub line-accepted : (labels : List Label) (lines : List Line) (l : List ℕ) → firstOf (lineTests labels lines l) ≡ 0 → LineAccepted labels lines l
 unfolding lineTests
@@ -158,5 +159,32 @@ line-accepted labels lines l e =
       isWhole = w;
       kind = four;
       room = room-says 4 256 (length lines) l (w .head) four (seven .0);
-      good = key-tests _ _ _ (two .1);
+      good = good-of-tests _ _ _ (two .1);
     }
+
+-- The other way: what passes each test is accepted
+pub profile-label-passes : (p : Profile) (l : List ℕ) → length (p .keys) ≡ 0 → whole l ≡ true → recordKind l ≡ 1
+    → goodLabel (p .labels) (readLabel (recordBody l)) ≡ true → firstOf (profileTests p l) ≡ 0
+unfolding profileTests firstOf inProfileOrder
+profile-label-passes p l none w k good = rw (room-left 2 64 (length (p .keys)) l (omega arith), w, k, good, none-empty (p .keys) none)
+
+pub profile-key-passes : (p : Profile) (l : List ℕ) → length (p .keys) < 64 → whole l ≡ true → recordKind l ≡ 2
+    → firstOf (keyTests (p .labels) inProfile (keyIn (recordBody l))) ≡ 0 → firstOf (profileTests p l) ≡ 0
+unfolding profileTests firstOf inProfileOrder
+profile-key-passes p l room w k good = rw (room-left 2 64 (length (p .keys)) l room, w, k) good
+
+pub question-passes : (labels : List Label) (l : List ℕ) → whole l ≡ true → recordKind l ≡ 2
+    → firstOf (keyTests labels inProfile (keyIn (recordBody l))) ≡ 0 → firstOf (questionTests labels [] l) ≡ 0
+unfolding questionTests firstOf isEmpty
+question-passes labels l w k good = rw (w, k) good
+
+pub node-passes : (labels : List Label) (nodes : List Node) (l : List ℕ) → length nodes < 4096 → whole l ≡ true → recordKind l ≡ 3
+    → cond (isEmpty nodes) (goodRoot (readNode (recordBody l))) (goodBelow labels nodes (readNode (recordBody l))) ≡ true
+    → firstOf (treeTests labels nodes l) ≡ 0
+unfolding treeTests firstOf
+node-passes labels nodes l room w k good = rw (room-left 3 4096 (length nodes) l room, w, k, good)
+
+pub line-passes : (labels : List Label) (lines : List Line) (l : List ℕ) → length lines < 256 → whole l ≡ true → recordKind l ≡ 4
+    → firstOf (keyTests labels inProof (readLine (recordBody l) .key)) ≡ 0 → firstOf (lineTests labels lines l) ≡ 0
+unfolding lineTests firstOf
+line-passes labels lines l room w k good = rw (room-left 4 256 (length lines) l room, w, k) good

@@ -8,3 +8,8 @@ pub mod Encodings
 pub mod Judged
 pub mod Profiles
 pub mod TreeFiles
+pub mod Questions
+pub mod Bodies
+pub mod Written
+pub mod WrittenInputs
+pub mod WrittenProfiles

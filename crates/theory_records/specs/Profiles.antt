@@ -14,10 +14,13 @@ use Rattle.meaning.specs.Paths.{Label}
 use Rattle.meaning.specs.Keys.{Key}
 use Rattle.meaning.specs.Records.{recordLength, recordKind, recordBody, readLabel, labelBytes, keyIn, keyBytes}
 use Rattle.meaning.specs.Refusals.{Refusal, firstRefusal, firstOf, Walked, walk, goodLabel, Profile, noProfile, profileTests, profileNext, profileWalked, profileIn, profileRefusal, oversize}
+use Rattle.meaning.specs.Operations.{labelsIn, keysIn}
+use Rattle.theory_paths.specs.Bools.{of-true}
+use Rattle.theory_paths.specs.Good.{GoodLabels, good-labels-none, good-labels-more, GoodKey}
 use Rattle.theory_records.specs.Walks.{Stopped, walk-keeps}
 use Rattle.theory_records.specs.Bytes.{Bytes, bytes-drop}
 use Rattle.theory_records.specs.Encodings.{label-written, key-record-written}
-use Rattle.theory_records.specs.Judged.{KeyAccepted, LabelAccepted, KeyRecordAccepted, profile-accepted}
+use Rattle.theory_records.specs.Judged.{LabelAccepted, KeyRecordAccepted, profile-accepted}
 
 -- the bytes of a profile: "A profile is labels, numbers ascending, then keys."
 unfoldable pub profileBytes : Profile → List ℕ
@@ -29,10 +32,22 @@ pub data LabelsRead : List Label → Type 0 where
   oneMore : {labels : List Label} (before : List Label) (l : Label) → LabelsRead before → goodLabel before l ≡ true
       → labels ≡ before ++ (l ∷ []) → LabelsRead labels
 
+-- .. and so between 2 and 200
+pub labels-good : {labels : List Label} → LabelsRead labels → GoodLabels labels
+labels-good (noLabel e) = subst GoodLabels (sym e) good-labels-none
+labels-good (oneMore before l more good e) = subst GoodLabels (sym e) (good-labels-more before l (labels-good more) (of-true _ good))
+
 pub flat-more : {A : Type 0} (f : A → List ℕ) (xs : List A) (x : A) → flatten (map f (xs ++ (x ∷ []))) ≡ flatten (map f xs) ++ f x
 unfolding flatten
 flat-more f [] x = append-nil (f x)
 flat-more f (y ∷ xs) x = ap (λ (l : List ℕ). f y ++ l) (flat-more f xs x) ∙ sym (append-assoc (f y) (flatten (map f xs)) (f x))
+
+-- one record more is written, and what is left is less by it
+pub one-more : {A : Type 0} (f : A → List ℕ) (xs : List A) (x : A) (r l bytes : List ℕ) → f x ++ r ≡ l → flatten (map f xs) ++ l ≡ bytes
+    → flatten (map f (xs ++ (x ∷ []))) ++ r ≡ bytes
+one-more f xs x r l bytes e w =
+    ap (λ (k : List ℕ). k ++ r) (flat-more f xs x)
+    ∙ (append-assoc (flatten (map f xs)) (f x) r ∙ (ap (λ (k : List ℕ). flatten (map f xs) ++ k) e ∙ w))
 
 pub each-more : {A : Type 0} {Q : A → Type 0} {xs : List A} {x : A} → Each Q xs → Q x → Each Q (xs ++ (x ∷ []))
 each-more end q = also q end
@@ -54,7 +69,7 @@ next-key p l k = rw k
 -- What holds of the labels and keys read so far
 pub record ProfileGood (n : ℕ) (p : Profile) : Type 0 where
   pub labels : LabelsRead (p .labels)
-  pub keys : Each (KeyAccepted (p .labels) inProfile) (p .keys)
+  pub keys : Each (GoodKey (p .labels) inProfile) (p .keys)
   pub few : length (p .keys) ≤ 64
   pub counted : n ≡ length (p .labels) + length (p .keys)
 
@@ -66,7 +81,7 @@ good-kept n p l g h e =
     rw (next-label p l (a .kind))
     (record {
       labels = oneMore (p .labels) (readLabel (recordBody l)) (g .labels) (a .good) refl;
-      keys = subst (λ (ks : List Key). Each (KeyAccepted (p .labels ++ (readLabel (recordBody l) ∷ [])) inProfile) ks) (sym (a .beforeKeys)) end;
+      keys = subst (λ (ks : List Key). Each (GoodKey (p .labels ++ (readLabel (recordBody l) ∷ [])) inProfile) ks) (sym (a .beforeKeys)) end;
       few = g .few;
       counted = omega (arith, g .counted, length-more (p .labels) (readLabel (recordBody l)));
     }))
@@ -98,7 +113,7 @@ pub record ProfileWritten (bytes : List ℕ) (n : ℕ) (p : Profile) (rest : Lis
   pub are : profileBytes p ++ rest ≡ bytes
 
 one-label : (A x K r l bytes : List ℕ) → K ≡ [] → x ++ r ≡ l → (A ++ K) ++ l ≡ bytes → ((A ++ x) ++ K) ++ r ≡ bytes
-one-label A x K r l bytes k e w = sym (sym w ∙ (rw (k, append-nil, append-nil, ← e) (sym (append-assoc A x r))))
+one-label A x K r l bytes k e w = sym (sym w ∙ (rw (k, append-nil A, append-nil (A ++ x), ← e) (sym (append-assoc A x r))))
 
 one-key : (A x K r l bytes : List ℕ) → x ++ r ≡ l → (A ++ K) ++ l ≡ bytes → (A ++ (K ++ x)) ++ r ≡ bytes
 one-key A x K r l bytes e w = sym (sym w ∙ (rw (← e) (simp append-assoc)))
@@ -183,3 +198,16 @@ profile-unique bytes other small small′ e e′ same =
 pub profile-read-back : (bytes : List ℕ) → Bytes bytes → profileRefusal bytes .number ≡ 0
     → profileIn (profileBytes (profileIn bytes)) ≡ profileIn bytes
 profile-read-back bytes small e = ap profileIn (profile-written bytes small (profile-accepts bytes e .walked))
+
+-- the same by the names that the operations use
+pub accepted-labels : (bytes : List ℕ) → profileRefusal bytes .number ≡ 0 → GoodLabels (labelsIn bytes)
+unfolding labelsIn
+accepted-labels bytes e = labels-good (profile-accepts bytes e .good .labels)
+
+pub accepted-keys : (bytes : List ℕ) → profileRefusal bytes .number ≡ 0 → Each (GoodKey (labelsIn bytes) inProfile) (keysIn bytes)
+unfolding labelsIn keysIn
+accepted-keys bytes e = profile-accepts bytes e .good .keys
+
+pub accepted-few : (bytes : List ℕ) → profileRefusal bytes .number ≡ 0 → length (keysIn bytes) ≤ 64
+unfolding keysIn
+accepted-few bytes e = profile-accepts bytes e .good .few

@@ -8,13 +8,6 @@ use native.Mathlib.Omega.{arith}
 use lib.Dec.{T}
 use Rattle.meaning.specs.Refusals.{firstOf}
 
-pub is-T : (b : Bool) → b ≡ true → T b
-is-T b e = subst T (sym e) tt
-
-pub T-is : (b : Bool) → T b → b ≡ true
-T-is true t = refl
-T-is false t = absurd t
-
 pub both : (a b : Bool) → a && b ≡ true → (a ≡ true) × (b ≡ true)
 both true b e = (refl, e)
 both false b e = absurd (subst T (sym e) tt)

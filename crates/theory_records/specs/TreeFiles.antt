@@ -15,13 +15,15 @@ use Rattle.meaning.specs.Paths.{Class, Label, element, attribute, text, isEleme
 use Rattle.meaning.specs.Trees.{Table, Node, noNode, tableOf, Placed, IsTree}
 use Rattle.meaning.specs.Records.{word, recordLength, recordKind, recordBody, readNode, nodeBytes}
 use Rattle.meaning.specs.Refusals.{Refusal, sound, firstOf, walk, goodRoot, goodBelow, treeTests, treeWalked, nodesIn, treeRefusal}
+use Rattle.theory_paths.specs.Bools.{of-true}
+use Rattle.theory_paths.specs.Good.{GoodLabels, declared-between}
 use Rattle.theory_records.specs.Tests.{both, either, never}
 use Rattle.theory_records.specs.Walks.{Stopped, walk-keeps}
 use Rattle.theory_records.specs.Bytes.{Bytes, bytes-drop}
 use Rattle.theory_records.specs.Heads.{Whole, body-length}
 use Rattle.theory_records.specs.Encodings.{ends-node, node-written}
 use Rattle.theory_records.specs.Judged.{NodeAccepted, node-accepted}
-use Rattle.theory_records.specs.Profiles.{flat-more, length-more, refusal-none, within-size}
+use Rattle.theory_records.specs.Profiles.{one-more, length-more, refusal-none, within-size}
 
 -- node i of the bytes
 unfoldable pub nodeAt : List ℕ → ℕ → Node
@@ -193,14 +195,14 @@ tree-accepts labels bytes e =
     not-empty (b ∷ l) h = omega arith
 
 -- A label of a file is not the root's, where the declared labels are "2 to 200"
-label-not-root : (labels : List Label) → ((n : ℕ) → declared labels n ≡ true → n ≤ 200) → (n : ℕ) → isLabel labels n ≡ true → n ≢ 203
+pub label-not-root : (labels : List Label) → GoodLabels labels → (n : ℕ) → isLabel labels n ≡ true → n ≢ 203
 unfolding isLabel
-label-not-root labels between n e q =
+label-not-root labels g n e q =
     ⊎-elim
     (λ (x : eqb n 1 || declared labels n || eqb n 201 ≡ true).
     ⊎-elim
     (λ (y : eqb n 1 || declared labels n ≡ true).
-    ⊎-elim (λ (z : eqb n 1 ≡ true). omega (arith, eqb-true n 1 z)) (λ (z : declared labels n ≡ true). omega (arith, between n z))
+    ⊎-elim (λ (z : eqb n 1 ≡ true). omega (arith, eqb-true n 1 z)) (λ (z : declared labels n ≡ true). omega (arith, declared-between labels g n (of-true _ z) .1))
     (either _ _ y))
     (λ (y : eqb n 201 ≡ true). omega (arith, eqb-true n 201 y))
     (either _ _ x))
@@ -221,10 +223,10 @@ root-says n e =
     (eqb-true _ _ (a .0), eqb-true _ _ (a .1), eqb-true _ _ (b .1))
 
 -- the file's table is a tree
-pub tree-is-tree : (labels : List Label) → ((n : ℕ) → declared labels n ≡ true → n ≤ 200) → (nodes : List Node) → 0 < length nodes
+pub nodes-tree : (labels : List Label) → GoodLabels labels → (nodes : List Node) → 0 < length nodes
     → NodesGood labels nodes → IsTree (classOf labels) (tableOf nodes)
 unfolding tableOf
-tree-is-tree labels between nodes h g =
+nodes-tree labels between nodes h g =
     record {
       some = h;
       root = root-says (getD nodes 0 noNode) (g .root h) .1;
@@ -233,3 +235,43 @@ tree-is-tree labels between nodes h g =
           let b = g .below n pos inside in
           record { above = b .above; inside = is-element _ (b .inside); notRoot = label-not-root labels between _ (b .known) };
     }
+
+pub tree-is-tree : (labels : List Label) → GoodLabels labels → (bytes : List ℕ) → treeRefusal labels bytes .number ≡ 0
+    → IsTree (classOf labels) (tableOf (nodesIn labels bytes))
+tree-is-tree labels between bytes e =
+    let a = tree-accepts labels bytes e in
+    nodes-tree labels between (nodesIn labels bytes) (a .some) (a .good)
+
+-- the bytes of a tree are the encodings of its nodes
+pub record TreeWritten (bytes : List ℕ) (n : ℕ) (nodes : List Node) (rest : List ℕ) : Type 0 where
+  pub small : Bytes rest
+  pub are : flatten (map nodeBytes nodes) ++ rest ≡ bytes
+
+tree-written-kept : (labels : List Label) (bytes : List ℕ) (n : ℕ) (nodes : List Node) (l : List ℕ) → TreeWritten bytes n nodes l → 0 < length l
+    → firstOf (treeTests labels nodes l) ≡ 0
+    → TreeWritten bytes (suc n) (nodes ++ (readNode (recordBody l) ∷ [])) (drop (recordLength l) l)
+tree-written-kept labels bytes n nodes l g h e =
+    let a = node-accepted labels nodes l e in
+    record {
+      small = bytes-drop (recordLength l) (g .small);
+      are =
+          one-more nodeBytes nodes (readNode (recordBody l)) (drop (recordLength l) l) l bytes
+          (node-written l (g .small) (a .isWhole) (a .kind)) (g .are);
+    }
+
+pub tree-written : (labels : List Label) (bytes : List ℕ) → Bytes bytes → treeRefusal labels bytes .number ≡ 0
+    → flatten (map nodeBytes (nodesIn labels bytes)) ≡ bytes
+unfolding treeRefusal nodesIn treeWalked
+tree-written labels bytes small e =
+    let one = refusal-none _ _ e in
+    let two = refusal-none _ _ (one .1) in
+    let w =
+    walk-keeps (treeTests labels) (λ (nodes : List Node) (l : List ℕ). nodes ++ (readNode (recordBody l) ∷ [])) (TreeWritten bytes)
+    (tree-long labels)
+    (tree-written-kept labels bytes)
+    0
+    []
+    bytes
+    (record { small = small; are = unfold flatten in refl }) in
+    sym (append-nil (flatten (map nodeBytes (nodesIn labels bytes))))
+    ∙ subst (λ (rest : List ℕ). flatten (map nodeBytes (nodesIn labels bytes)) ++ rest ≡ bytes) (w .sound (two .0)) (w .held .are)

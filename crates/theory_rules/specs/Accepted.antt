@@ -1,60 +1,21 @@
 -- An accepted proof is true of every tree: each line's key is kept by a tree that keeps the profile.
-use Prim.Native.Nat.{ℕ, zero, suc, _<_, _≤_, _-_}
+use Prim.Native.Nat.{ℕ, zero, suc, _-_}
 use mathlib.Core.Path.{_≡_, refl, sym, _∙_, ap, subst}
 use mathlib.Core.List.{List, [], _∷_, _++_, map}
-use mathlib.Core.Option.{Option, none, some, Option·some-injective, Option·none-ne-some}
+use mathlib.Core.Option.{some, Option·some-injective, Option·none-ne-some}
 use native.Mathlib.Omega.{arith}
-use lib.Dec.{T}
-use lib.ListN.{length, take, getElem?, length-map}
+use lib.ListN.{length, take, getElem?}
 use lib.Seq.{take-length}
 use Rattle.meaning.specs.Limits.{inProof}
 use Rattle.meaning.specs.Lists.{Each}
 use Rattle.meaning.specs.Lists.Each.{end, also}
-use Rattle.meaning.specs.Paths.{Class, Label, member, Included}
+use Rattle.meaning.specs.Paths.{Class, Label, Included}
 use Rattle.meaning.specs.Trees.{Table, IsTree}
 use Rattle.meaning.specs.Keys.{Key, Keeps, Implied}
-use Rattle.meaning.specs.Rules.{
-  Line,
-  ContextPath,
-  TargetPath,
-  Follows,
-  rule0,
-  rule1,
-  rule2,
-  rule3,
-  rule4,
-  rule5,
-  rule6,
-  rule7,
-  rule8,
-  rule9,
-  lineKeys,
-  FollowsAt,
-  FollowsBelow,
-  EndsWith,
-  Accepted,
-}
+use Rattle.meaning.specs.Rules.{Line, Follows, rule0, rule1, rule2, rule3, rule4, rule5, rule6, rule7, rule8, rule9, lineKeys, FollowsBelow, EndsWith, Accepted}
 use Rattle.theory_paths.specs.Words.{Word, member→word}
-use Rattle.theory_paths.specs.Good.{
-  GoodLabels,
-  GoodKey,
-  included-good,
-  context-symbols,
-  target-symbols,
-  valid-context,
-  valid-target,
-}
-use Rattle.theory_rules.specs.Rules.{
-  epsilon-kept,
-  superkey-kept,
-  context-kept,
-  target-kept,
-  context-target-kept,
-  subnodes-kept,
-  interaction-kept,
-  prefix-epsilon-kept,
-  subnodes-epsilon-kept,
-}
+use Rattle.theory_paths.specs.Good.{GoodLabels, GoodKey, included-good, context-symbols, target-symbols, valid-context, valid-target}
+use Rattle.theory_rules.specs.Rules.{epsilon-kept, superkey-kept, context-kept, target-kept, context-target-kept, subnodes-kept, interaction-kept, prefix-epsilon-kept, subnodes-epsilon-kept}
 
 -- what holds of each member holds of the one that stands at a number
 pub each-number : {A : Type 0} {Q : A → Type 0} {xs : List A} → Each Q xs → (n : ℕ) {x : A} → getElem? xs n ≡ some x → Q x

@@ -1,39 +1,17 @@
 -- Each rule on one tree: a witness against the conclusion is turned into one against a premise (ARGUMENT 3).
 use Prim.Native.Nat.{ℕ}
-use mathlib.Core.Path.{_≡_, refl, sym, _∙_, ap, subst}
-use mathlib.Core.Logic.{_≢_, _⊎_, inl, inr, ⊎-elim}
+use mathlib.Core.Path.{_≡_, refl, sym, _∙_, subst}
 use mathlib.Core.List.{List, [], _∷_, _++_, map, List·Memᴰ, List·Memᴰ·head, List·Memᴰ·tail}
 use native.Mathlib.Decide.{ℕ-discrete}
-use lib.Dec.{T}
 use Rattle.meaning.specs.Lists.{Each}
 use Rattle.meaning.specs.Lists.Each.{end, also}
-use Rattle.meaning.specs.Paths.{Class, join, simple}
+use Rattle.meaning.specs.Paths.{Class, join}
 use Rattle.meaning.specs.Trees.{Table, IsTree, Reached, Equal}
-use Rattle.meaning.specs.Keys.{Key, EqualPair, Breaks, Keeps}
-use Rattle.meaning.specs.Rules.{
-  Epsilon,
-  BeginsSome,
-  PrefixEpsilon,
-  Superkey,
-  Subnodes,
-  ContextTarget,
-  withEmpty,
-  SubnodesEpsilon,
-  Interaction,
-}
+use Rattle.meaning.specs.Keys.{Key, EqualPair, Keeps}
+use Rattle.meaning.specs.Rules.{Epsilon, PrefixEpsilon, Superkey, Subnodes, ContextTarget, withEmpty, SubnodesEpsilon, Interaction}
 use Rattle.theory_paths.specs.Bools.{Each-at, Each-of}
 use Rattle.theory_paths.specs.Words.{Word}
-use Rattle.theory_trees.specs.Laws.{equal-symmetric}
-use Rattle.theory_trees.specs.Reach.{
-  reached-empty,
-  reached-self,
-  reached-append,
-  reached-split,
-  reached-append-split,
-  reached-wider,
-  reached-rigid,
-  equal-reached,
-}
+use Rattle.theory_trees.specs.Reach.{reached-empty, reached-self, reached-append, reached-split, reached-append-split, reached-wider, reached-rigid, equal-reached}
 
 -- a node reached by one path is reached by the path that is the same
 by-same : {t : Table} {v w : ℕ} {P Q : List ℕ} → P ≡ Q → Reached t v P w → Reached t v Q w

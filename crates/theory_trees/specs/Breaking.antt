@@ -1,20 +1,20 @@
 -- Whether a tree breaks a key, as a computation: a search over the nodes that the paths reach.
-use Prim.Native.Nat.{ℕ, zero, suc, _<_, _≤_, _+_}
-use mathlib.Core.Path.{_≡_, refl, sym, _∙_, ap, subst}
+use Prim.Native.Nat.{ℕ, _<_}
+use mathlib.Core.Path.{_≡_, refl, sym, subst}
 use mathlib.Core.Logic.{_≢_}
 use mathlib.Core.Bool.{Bool, true, false}
-use mathlib.Core.List.{List, [], _∷_, List·Memᴰ}
+use mathlib.Core.List.{List, List·Memᴰ}
 use native.Mathlib.Omega.{arith}
 use native.Mathlib.Decide.{map-dec}
 use lib.Dec.{T, eqb}
 use borrow.Author.Tests.{eqb-false, ne-eqb}
 use Rattle.meaning.specs.Lists.{Each, every, any, keep, numbers}
 use Rattle.meaning.specs.Paths.{Class}
-use Rattle.meaning.specs.Trees.{Table, IsTree, Reached, Equal}
+use Rattle.meaning.specs.Trees.{Table, IsTree, Reached}
 use Rattle.meaning.specs.Keys.{Key, EqualPair, Breaks, Keeps}
-use Rattle.theory_paths.specs.Bools.{every-each, each-every, any-some, some-any, Each-at, Each-of, T-cases}
+use Rattle.theory_paths.specs.Bools.{every-each, each-every, any-some, some-any, Each-at, Each-of}
 use Rattle.theory_trees.specs.Below.{ParentsSmaller, tree-smaller}
-use Rattle.theory_trees.specs.Children.{keep-mem, mem-keep, numbers-mem, mem-numbers}
+use Rattle.theory_trees.specs.Children.{keep-mem, mem-keep, mem-numbers}
 use Rattle.theory_trees.specs.Climb.{reaches, reaches-sound, reaches-complete, T-dec}
 use Rattle.theory_trees.specs.Reach.{reached-inside}
 use Rattle.theory_trees.specs.Sameness.{sameNodes, same-sound, same-complete}

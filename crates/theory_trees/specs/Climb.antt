@@ -1,11 +1,11 @@
 -- Reach as a computation: climb from the lower node, gathering the labels passed, until the upper node is met.
-use Prim.Native.Nat.{ℕ, zero, suc, _<_, _≤_, _+_}
-use mathlib.Core.Path.{_≡_, refl, sym, _∙_, ap, ap₂, subst}
+use Prim.Native.Nat.{ℕ, zero, suc, _<_, _≤_}
+use mathlib.Core.Path.{_≡_, refl, sym, _∙_, ap, subst}
 use mathlib.Core.Bool.{Bool, true, false, _&&_, true≢false, false≢true}
 use mathlib.Core.List.{List, [], _∷_, _++_, append-assoc, append-nil}
 use native.Mathlib.Omega.{arith}
 use native.Mathlib.Decide.{map-dec}
-use lib.Dec.{T, eqb, ltb, eqb→eq, ltb→lt, lt→ltb}
+use lib.Dec.{T, eqb, ltb, eqb→eq, ltb→lt}
 use borrow.Author.Tests.{eqb-true, eq-eqb, ne-eqb, lt-ltb}
 use lib.ListN.{length}
 use Rattle.meaning.specs.Paths.{member}

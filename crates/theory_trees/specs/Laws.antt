@@ -1,30 +1,14 @@
 -- The five laws of value equality (ARGUMENT 2). Everything above uses value equality through this module alone, so a request that
 -- changes the definition's text has only these laws to prove again.
-use Prim.Native.Nat.{ℕ, zero, suc, _<_, _≤_, _+_}
-use mathlib.Core.Path.{_≡_, refl, sym, _∙_, ap, subst}
-use mathlib.Core.Logic.{_⊎_, inl, inr, ⊎-elim}
+use Prim.Native.Nat.{ℕ, zero, suc, _≤_, _+_}
+use mathlib.Core.Path.{_≡_, refl, sym, _∙_, subst}
 use mathlib.Core.Bool.{Bool, true, false, not}
 use mathlib.Core.List.{List, [], _∷_, List·Memᴰ, List·Memᴰ·head, List·Memᴰ·tail}
 use native.Mathlib.Omega.{arith}
 use lib.Dec.{T, T-not}
-use Rattle.meaning.specs.Paths.{Class, element, isElement, isAttribute}
-use Rattle.meaning.specs.Trees.{
-  Table,
-  IsTree,
-  Child,
-  Down,
-  here,
-  step,
-  attributes,
-  others,
-  Equal,
-  leaves,
-  elements,
-  EqualLists,
-  ended,
-  paired,
-}
-use Rattle.theory_trees.specs.Below.{ParentsSmaller, child-greater, down-from}
+use Rattle.meaning.specs.Paths.{Class, isElement, isAttribute}
+use Rattle.meaning.specs.Trees.{Table, IsTree, Child, Down, here, step, attributes, others, Equal, leaves, elements, EqualLists, ended, paired}
+use Rattle.theory_trees.specs.Below.{ParentsSmaller, child-greater}
 use Rattle.theory_trees.specs.Children.{attribute-child, child-attribute, other-child, child-other}
 
 module _ {κ : ℕ → Class} {t : Table} where

@@ -1,16 +1,15 @@
 -- Reach by a path: by joins, by wider paths, by simple paths, and between value-equal nodes.
 use Prim.Native.Nat.{ℕ, _<_}
-use mathlib.Core.Path.{_≡_, refl, sym, _∙_, ap, subst}
-use mathlib.Core.List.{List, [], _∷_, _++_}
+use mathlib.Core.Path.{_≡_, refl, subst}
+use mathlib.Core.List.{List, [], _++_}
 use lib.Dec.{T}
-use lib.ListN.{length}
-use Rattle.meaning.specs.Paths.{Class, member, join, simple}
-use Rattle.meaning.specs.Trees.{Table, IsTree, Down, here, step, Reached, Equal}
+use Rattle.meaning.specs.Paths.{Class, join, simple}
+use Rattle.meaning.specs.Trees.{Table, IsTree, Down, here, Reached, Equal}
 use Rattle.theory_paths.specs.Words.{Word, member→word, word→member, word-refl, word-split, word-trans}
 use Rattle.theory_paths.specs.Normal.{word-join, word-join→}
 use Rattle.theory_paths.specs.Simple.{simple-word}
-use Rattle.theory_trees.specs.Below.{Way, down-append, down-split, down-inside, rigid-node}
-use Rattle.theory_trees.specs.Laws.{DownMate, equal-down}
+use Rattle.theory_trees.specs.Below.{down-append, down-split, down-inside, rigid-node}
+use Rattle.theory_trees.specs.Laws.{equal-down}
 
 -- The node on the way from v to x, after P and before Q
 pub record ReachedWay (t : Table) (v : ℕ) (P Q : List ℕ) (x : ℕ) : Type 0 where

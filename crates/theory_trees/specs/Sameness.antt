@@ -1,25 +1,14 @@
 -- Value equality as a computation. With `Laws`, the only place that knows the definition's text.
 use Prim.Native.Nat.{ℕ, zero, suc, _<_, _≤_, _+_}
-use mathlib.Core.Path.{_≡_, refl, sym, _∙_, ap, subst}
-use mathlib.Core.Bool.{Bool, true, false, _&&_, not}
+use mathlib.Core.Path.{_≡_, refl, sym, subst}
+use mathlib.Core.Bool.{Bool, true, false, not}
 use mathlib.Core.List.{List, [], _∷_, List·Memᴰ, List·Memᴰ·head, List·Memᴰ·tail}
 use native.Mathlib.Omega.{arith}
 use native.Mathlib.Decide.{map-dec}
-use lib.Dec.{T, T-not, eqb, eqb→eq}
+use lib.Dec.{T, eqb, eqb→eq}
 use Rattle.meaning.specs.Paths.{Class, isElement}
-use Rattle.meaning.specs.Trees.{
-  Table,
-  Child,
-  attributes,
-  others,
-  Equal,
-  leaves,
-  elements,
-  EqualLists,
-  ended,
-  paired,
-}
-use Rattle.theory_paths.specs.Bools.{and-left, and-right, both, eqb-of}
+use Rattle.meaning.specs.Trees.{Table, Child, attributes, others, Equal, leaves, elements, EqualLists, ended, paired}
+use Rattle.theory_paths.specs.Bools.{eqb-of}
 use Rattle.theory_trees.specs.Below.{ParentsSmaller, child-greater}
 use Rattle.theory_trees.specs.Children.{attribute-child, other-child}
 use Rattle.theory_trees.specs.Climb.{T-dec}
