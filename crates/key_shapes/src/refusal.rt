@@ -1,0 +1,1 @@
+// The first of 4, 5 and 6 that a key gives.

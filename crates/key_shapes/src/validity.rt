@@ -1,0 +1,1 @@
+// 6: "C.T.P not valid for some P".
