@@ -1,14 +1,13 @@
 -- The table that a tree file's bytes say: "length (2), kind (2), parent (2), label (1), value (2)", 9 bytes a node.
 use Prim.Native.Nat.{ℕ, _+_, _*_, _/_, _<_, _≤_}
 use mathlib.Core.Path.{_≡_}
-use mathlib.Core.Bool.{cond}
 use mathlib.Core.List.{List}
-use lib.Dec.{eqb}
 use lib.ListN.{length, getD}
-use Rattle.meaning.specs.Limits.{textLabel, fillerAttribute, attributeClass, treeNodes}
-use Rattle.meaning.specs.Paths.{Class, element, attribute, text}
+use Rattle.meaning.specs.Limits.{treeNodes}
+use Rattle.meaning.specs.Paths.{element}
 use Rattle.meaning.specs.Trees.{Table}
 use Rattle.meaning.specs.Records.{word}
+unfoldable pub use Rattle.shapes.specs.Classes.{classBy}
 
 unfoldable pub fileTable : List ℕ → Table
 fileTable bytes =
@@ -18,11 +17,6 @@ fileTable bytes =
       label = λ i. getD bytes (9 * i + 6) 0;
       value = λ i. word bytes (9 * i + 7);
     }
-
--- The class function by a table of 256 bytes: 0 not declared, 1 element, 2 attribute. Text and the filler attribute are as 01 says, every
--- other label an element
-unfoldable pub classBy : List ℕ → ℕ → Class
-classBy classes n = cond (eqb n textLabel) text (cond (eqb n fillerAttribute) attribute (cond (eqb (getD classes n 0) attributeClass) attribute element))
 
 -- What an accepted tree gives: whole records, one to 4,096 of them, and each but the root has its parent before it, an element
 pub record TreeBytes (classes bytes : List ℕ) : Type 0 where

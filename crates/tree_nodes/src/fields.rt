@@ -1,8 +1,9 @@
 // The fields of a node record: "length (2), kind (2), parent (2), label (1), value (2)".
+use shapes::fields::{wide, word};
+
 ghost use mathlib.Core.Path.{_≡_};
 ghost use Prim.Native.Nat.{_+_, _*_, _<_, _≤_};
 ghost use lib.ListN.{length, getD};
-ghost use Rattle.meaning.specs.Records.{word as wordAt};
 ghost use Rattle.meaning.specs.Paths.{isElement, isAttribute};
 ghost use Rattle.tree_nodes.specs.FileTable.{fileTable, classBy};
 
@@ -16,30 +17,12 @@ const PARENT_AT: usize = 4;
 const LABEL_AT: usize = 6;
 
 const VALUE_AT: usize = 7;
-// How many values a byte has.
-const BYTE: usize = 256;
 // "Label 1 is text"; "202 a filler attribute"; "class (1 element, 2 attribute)"
 const TEXT: usize = 1;
 
 const FILLER_ATTRIBUTE: usize = 202;
 
 const ATTRIBUTE_CLASS: usize = 2;
-
-fn wide(b: u8) -> usize
-    ensures { λ r. ⌜ (r ≡ b) × (r < 256) ⌝ }
-{
-    b as usize
-}
-
-// "two bytes, little-endian"
-fn word(l: &[u8], at: usize) -> usize
-    requires { ⌜ at + 1 < length (now l) ⌝ }
-    ensures { λ r. ⌜ (r ≡ wordAt (now (l .entry)) at) × (r < 65536) ⌝ }
-{
-    let low = wide(l[at]);
-    let high = wide(l[at + 1]);
-    low + BYTE * high
-}
 
 // How many nodes the bytes hold.
 pub fn size(tree: &[u8]) -> usize

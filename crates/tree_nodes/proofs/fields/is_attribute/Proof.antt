@@ -7,7 +7,7 @@ use Rattle.tree_nodes.proofs.fields.is_attribute.Statement.{statement}
 use Rattle.tree_nodes.proofs.fields.is_attribute.Tie as tie
 use Rattle.tree_nodes.proofs.fields.is_attribute.Reads as reads
 use Rattle.tree_nodes.proofs.fields.is_attribute.Lts as lts
-use Rattle.tree_nodes.proofs.fields.wide.Reads as wide-reads
+use Rattle.shapes.proofs.fields.wide.Reads as wide-reads
 
 -- src/fields.rt:72:9
 returns : tie.Need-returns

@@ -4,7 +4,7 @@ use Rattle.tree_nodes.proofs.fields.label.Statement.{statement}
 use Rattle.tree_nodes.proofs.fields.label.Tie as tie
 use Rattle.tree_nodes.proofs.fields.label.Reads as reads
 use Rattle.tree_nodes.proofs.fields.label.Lts as lts
-use Rattle.tree_nodes.proofs.fields.wide.Reads as wide-reads
+use Rattle.shapes.proofs.fields.wide.Reads as wide-reads
 
 -- src/fields.rt:57:15
 mul-wide : tie.Need-mul-wide

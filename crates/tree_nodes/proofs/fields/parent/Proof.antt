@@ -4,7 +4,7 @@ use Rattle.tree_nodes.proofs.fields.parent.Statement.{statement}
 use Rattle.tree_nodes.proofs.fields.parent.Tie as tie
 use Rattle.tree_nodes.proofs.fields.parent.Reads as reads
 use Rattle.tree_nodes.proofs.fields.parent.Lts as lts
-use Rattle.tree_nodes.proofs.fields.word.Reads as word-reads
+use Rattle.shapes.proofs.fields.word.Reads as word-reads
 
 -- src/fields.rt:50:16
 mul-word : tie.Need-mul-word

@@ -4,7 +4,7 @@ use Rattle.tree_nodes.proofs.fields.value.Statement.{statement}
 use Rattle.tree_nodes.proofs.fields.value.Tie as tie
 use Rattle.tree_nodes.proofs.fields.value.Reads as reads
 use Rattle.tree_nodes.proofs.fields.value.Lts as lts
-use Rattle.tree_nodes.proofs.fields.word.Reads as word-reads
+use Rattle.shapes.proofs.fields.word.Reads as word-reads
 
 -- src/fields.rt:64:16
 mul-word : tie.Need-mul-word
