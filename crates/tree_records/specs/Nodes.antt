@@ -14,6 +14,8 @@ use Rattle.meaning.specs.Records.{word, recordLength, recordKind, recordBody, r
 use Rattle.meaning.specs.Refusals.{firstOf, tooMany, whole, goodRoot, goodBelow, treeTests}
 use Rattle.shapes.specs.Classes.{Tabled, classBy, isLabelBy, class-tabled, label-tabled}
 use Rattle.theory_records.specs.Bytes.{Bytes, bytes-at}
+use Rattle.theory_records.specs.Tests.{first-holds, first-fails, not-holds, not-fails}
+use Rattle.theory_records.specs.HeadTests.{headTests, head-many, head-torn, head-other, head-more, body-part}
 use Rattle.theory_records.specs.Heads.{Whole, whole-says}
 use Rattle.theory_records.specs.Encodings.{ends-node}
 use Rattle.theory_records.specs.TreeFiles.{TreeAt, nodeAt}
@@ -29,8 +31,7 @@ goodNodeBy classes bytes n x = cond (eqb n 0) (goodRoot x) (goodBelowBy classes 
 
 -- the tests of node n, which stands at the front of l
 unfoldable pub nodeTestsBy : List ℕ → List ℕ → ℕ → List ℕ → List (ℕ × Bool)
-nodeTestsBy classes bytes n l =
-    (7, tooMany 3 4096 n l) ∷ (1, not (whole l)) ∷ (2, not (eqb (recordKind l) 3)) ∷ (8, not (goodNodeBy classes bytes n (readNode (recordBody l)))) ∷ []
+nodeTestsBy classes bytes n l = headTests 3 4096 n l ((8, not (goodNodeBy classes bytes n (readNode (recordBody l)))) ∷ [])
 
 -- A node below the root, return by return: p is the parent's number as the code has it
 module _ (classes bytes : List ℕ) (n : ℕ) (x : Node) {p : ℕ} (e : p ≡ x .parent) where
@@ -79,31 +80,30 @@ module _ (x : Node) {p : ℕ} (e : p ≡ x .parent) where
 -- The tests of a node record, return by return
 module _ (classes bytes : List ℕ) (n : ℕ) (l : List ℕ) {a : Bool} (many : a ≡ tooMany 3 4096 n l) where
   pub node-many : a ≡ true → 7 ≡ firstOf (nodeTestsBy classes bytes n l)
-  unfolding nodeTestsBy firstOf
-  node-many t = rw (sym many ∙ t)
+  unfolding nodeTestsBy
+  node-many t = head-many 3 4096 n l _ many t
 
   module _ (t : a ≡ false) {b : Bool} (isWhole : b ≡ whole l) where
     pub node-torn : not b ≡ true → 1 ≡ firstOf (nodeTestsBy classes bytes n l)
-    unfolding nodeTestsBy firstOf
-    node-torn u = rw (sym many ∙ t, sym isWhole ∙ not-true _ u)
+    unfolding nodeTestsBy
+    node-torn u = head-torn 3 4096 n l _ many t isWhole u
 
     module _ (u : not b ≡ false) {k : ℕ} (kind : k ≡ word l 2) where
       pub node-other : (k ≡ 3 → ⊥) → 2 ≡ firstOf (nodeTestsBy classes bytes n l)
-      unfolding nodeTestsBy firstOf recordKind
-      node-other h = rw (sym many ∙ t, sym isWhole ∙ not-false _ u, ne-eqb (word l 2) 3 (λ q. h (kind ∙ q)))
+      unfolding nodeTestsBy
+      node-other h = head-other 3 4096 n l _ many t isWhole u kind h
 
       module _ (h : k ≡ 3) {end : ℕ} (long : end ≡ word l 0) {g : Bool} (good : g ≡ goodNodeBy classes bytes n (readNode (take (end - 4) (drop 4 l)))) where
         body-good : {c : Bool} → g ≡ c → goodNodeBy classes bytes n (readNode (recordBody l)) ≡ c
-        unfolding recordBody recordLength
-        body-good v = sym (ap (λ (m : ℕ). goodNodeBy classes bytes n (readNode (take (m - 4) (drop 4 l)))) long) ∙ (sym good ∙ v)
+        body-good v = sym (ap (λ (body : List ℕ). goodNodeBy classes bytes n (readNode body)) (body-part l long)) ∙ (sym good ∙ v)
 
         pub node-good : g ≡ true → 0 ≡ firstOf (nodeTestsBy classes bytes n l)
-        unfolding nodeTestsBy firstOf recordKind
-        node-good v = rw (sym many ∙ t, sym isWhole ∙ not-false _ u, sym kind ∙ h, body-good v)
+        unfolding nodeTestsBy firstOf
+        node-good v = sym (first-fails 8 [] (not-holds (body-good v))) ∙ head-more 3 4096 n l _ many t isWhole u kind h
 
         pub node-bad : g ≡ false → 8 ≡ firstOf (nodeTestsBy classes bytes n l)
-        unfolding nodeTestsBy firstOf recordKind
-        node-bad v = rw (sym many ∙ t, sym isWhole ∙ not-false _ u, sym kind ∙ h, body-good v)
+        unfolding nodeTestsBy
+        node-bad v = sym (first-holds 8 [] (not-fails (body-good v))) ∙ head-more 3 4096 n l _ many t isWhole u kind h
 
 -- the body of a whole node record
 pub node-body : (l : List ℕ) {b : Bool} → b ≡ whole l → not b ≡ false → {k : ℕ} → k ≡ word l 2 → k ≡ 3 → {end : ℕ} → end ≡ word l 0

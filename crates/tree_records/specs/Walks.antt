@@ -15,8 +15,7 @@ use Rattle.meaning.specs.Trees.{Node, noNode}
 use Rattle.meaning.specs.Records.{word, recordLength, recordKind, recordBody, readNode}
 use Rattle.meaning.specs.Refusals.{Refusal, sound, firstRefusal, oversize, Walked, walk, firstOf, tooMany, whole, goodRoot, goodBelow, treeTests, treeWalked, nodesIn, treeRefusal}
 use Rattle.shapes.specs.Classes.{Tabled, classBy, isLabelBy, class-tabled, label-tabled}
-use Rattle.theory_records.specs.Tests.{first-none}
-use Rattle.theory_records.specs.Heads.{Whole, whole-says}
+use Rattle.theory_records.specs.HeadTests.{headTests, head-passed}
 use Rattle.theory_records.specs.Bytes.{Bytes, bytes-at, bytes-drop}
 use Rattle.theory_records.specs.Encodings.{bytes-body}
 use Rattle.theory_records.specs.Walks.{walk-step, walk-stop, walk-end}
@@ -54,7 +53,7 @@ module _ {labels : List Label} {classes : List ℕ} (tabled : Tabled labels clas
 
   pub tests-agree : {n : ℕ} {nodes : List Node} {l : List ℕ} → TreeAt labels bytes n nodes l
       → firstOf (nodeTestsBy classes bytes n l) ≡ firstOf (treeTests labels nodes l)
-  unfolding nodeTestsBy goodNodeBy treeTests
+  unfolding nodeTestsBy headTests goodNodeBy treeTests
   tests-agree {n} {nodes} {l} a =
       let rest : Bytes l = subst Bytes (sym (a .left)) (bytes-drop (9 * length nodes) small) in
       let label : readNode (recordBody l) .label < 256 = label-small l rest in
@@ -90,13 +89,9 @@ pub record Nine (rest : List ℕ) : Type 0 where
 pub nine : (classes bytes : List ℕ) (n : ℕ) (rest : List ℕ) → firstOf (nodeTestsBy classes bytes n rest) ≡ 0 → Nine rest
 unfolding nodeTestsBy
 nine classes bytes n rest e =
-    let seven = first-none _ _ _ e in
-    let one = first-none _ _ _ (seven .1) in
-    let two = first-none _ _ _ (one .1) in
-    let w = whole-says rest (not-false _ (one .0)) in
-    let kind : recordKind rest ≡ 3 = eqb-true _ _ (not-false _ (two .0)) in
-    let long : recordLength rest ≡ 9 = node-length rest w kind in
-    record { head = w .head; long = long; within = omega (arith, w .within) }
+    let p = head-passed 3 4096 n rest _ e in
+    let long : recordLength rest ≡ 9 = node-length rest (p .isWhole) (p .isKind) in
+    record { head = p .isWhole .head; long = long; within = omega (arith, p .isWhole .within) }
 
 -- the same, as the code has it
 pub record NineHere (rest : List ℕ) : Type 0 where
