@@ -1,0 +1,3 @@
+-- What the readers of whole inputs say, and their laws.
+pub mod Labels
+pub mod Keys

@@ -1,0 +1,413 @@
+//! Random profiles, questions, trees and proofs over few labels, so that both verdicts, kept and broken
+//! keys, accepted and refused proofs are all frequent.
+use super::decide::{counterexample, proof, verdict, Pattern, Verdict};
+use super::paths::*;
+use super::random::Random;
+use super::records::*;
+
+/// The labels of one random profile.
+pub struct World {
+    pub labels: Vec<Label>,
+    pub classes: Classes,
+    pub elements: Vec<u8>,
+    /// Attributes and text: what stands only last.
+    pub last_only: Vec<u8>,
+}
+
+const NAMES: [&str; 6] = ["a", "Bee", "c-1", "d_", "element-name-of-32-bytes-ABCDEFG", "z9"];
+
+pub fn world(random: &mut Random) -> World {
+    let sets: [&[u8]; 3] = [&[2, 3, 4, 6, 7], &[2, 57, 100, 199, 200], &[10, 11, 12, 13, 14]];
+    let numbers = random.one_of(&sets);
+    let elements = 1 + random.below(3);
+    let attributes = random.below(3);
+    let mut world = World { labels: Vec::new(), classes: Classes::none(), elements: vec![], last_only: vec![TEXT] };
+    for at in 0..elements + attributes {
+        let number = numbers[at];
+        let class = if at < elements { 1 } else { 2 };
+        if class == 1 {
+            world.elements.push(number);
+            world.classes.declare(number, Class::Element);
+        } else {
+            world.last_only.push(number);
+            world.classes.declare(number, Class::Attribute);
+        }
+        world.labels.push(Label { number, class, name: NAMES[at].as_bytes().to_vec() });
+    }
+    world
+}
+
+/// A path of element labels and, where `any` says so, any-paths, in normal form.
+pub fn inner_path(random: &mut Random, world: &World, longest: usize, any: bool) -> Path {
+    let length = random.below(longest + 1);
+    let mut path: Path = Vec::new();
+    while path.len() < length {
+        if any && path.last() != Some(&ANY_PATH) && random.chance(1, 4) {
+            path.push(ANY_PATH);
+        } else {
+            path.push(random.one_of(&world.elements));
+        }
+    }
+    path
+}
+
+/// The same, perhaps with an attribute or text last.
+pub fn path(random: &mut Random, world: &World, longest: usize, any: bool) -> Path {
+    let mut path = inner_path(random, world, longest, any);
+    if path.len() < longest && random.chance(1, 2) {
+        path.push(random.one_of(&world.last_only));
+    }
+    path
+}
+
+pub fn in_order(paths: &mut Vec<Path>) {
+    paths.sort_by_key(|each| (each.len(), each.clone()));
+    paths.dedup();
+}
+
+/// A key that stands in a profile without refusal.
+pub fn key(random: &mut Random, world: &World) -> Key {
+    let (way, branch, count) = if random.chance(1, 12) { (8, 8, 4) } else { (3, 2, 3) };
+    let mut context = inner_path(random, world, way - 1, true);
+    let mut target = inner_path(random, world, way - 1, true);
+    if random.chance(1, 8) {
+        // An attribute or text as target, or as context of an empty target.
+        let last = random.one_of(&world.last_only);
+        if random.chance(3, 4) {
+            target.push(last);
+        } else {
+            target.clear();
+            context.push(last);
+        }
+        return Key { context, target, paths: vec![vec![]] };
+    }
+    let number = 1 + random.below(count);
+    let mut paths: Vec<Path> = (0..number).map(|_| path(random, world, branch, false)).collect();
+    in_order(&mut paths);
+    Key { context, target, paths }
+}
+
+pub fn is_good(key: &Key, classes: &Classes) -> bool {
+    let way = join(&key.context, &key.target);
+    let fits = |path: &Path| path.len() <= KEY_SIZES.path && is_normal(path);
+    fits(&key.context)
+        && fits(&key.target)
+        && (1..=KEY_SIZES.count).contains(&key.paths.len())
+        && key.paths.iter().all(|each| fits(each) && is_simple(each) && is_valid(&join(&way, each), classes))
+}
+
+/// A path that holds the given symbols as a word: some parts give way to any-paths.
+pub fn wider(random: &mut Random, symbols: &[u8]) -> Path {
+    let mut path = Vec::new();
+    let mut at = 0;
+    while at < symbols.len() {
+        if random.chance(1, 5) {
+            path.push(ANY_PATH);
+            at += random.below(3);
+        } else {
+            path.push(symbols[at]);
+            at += 1;
+        }
+    }
+    if random.chance(1, 10) {
+        path.push(ANY_PATH);
+    }
+    normal_form(&path)
+}
+
+/// A profile key that lets some node of the question's pattern step upwards, or nearly does.
+fn key_near(random: &mut Random, world: &World, asked: &Key) -> Key {
+    let way = [asked.context.as_slice(), &asked.target].concat();
+    let line = [way.as_slice(), &random.one_of(&asked.paths)].concat();
+    let holds_empty = asked.paths.iter().any(|each| each.is_empty());
+    let from = random.below(line.len() + 1);
+    let to = random.below(from.min(way.len()) + 1);
+    let mut paths: Vec<Path> = Vec::new();
+    for each in &asked.paths {
+        let whole = [way.as_slice(), each].concat();
+        if whole.len() >= from && whole[..from] == line[..from] {
+            let mut rest = whole[from..].to_vec();
+            if holds_empty && random.chance(1, 3) {
+                let least = way.len().saturating_sub(from);
+                rest.truncate(least + random.below(rest.len() - least.min(rest.len()) + 1));
+            }
+            if paths.is_empty() || random.chance(1, 2) {
+                paths.push(rest);
+            }
+        }
+    }
+    if random.chance(1, 8) {
+        paths.push(path(random, world, 2, false));
+    }
+    in_order(&mut paths);
+    let key = Key { context: wider(random, &line[..to]), target: wider(random, &line[to..from]), paths };
+    if is_good(&key, &world.classes) {
+        key
+    } else {
+        self::key(random, world)
+    }
+}
+
+/// A world, a question and a profile of keys near it.
+pub struct Asked {
+    pub world: World,
+    pub profile: Profile,
+    pub question: Key,
+}
+
+pub fn asked(random: &mut Random) -> Asked {
+    let world = world(random);
+    let question = key(random, &world);
+    let mut keys = Vec::new();
+    let count = if random.chance(1, 40) { 64 } else { random.below(5) };
+    for _ in 0..count {
+        keys.push(if random.chance(3, 4) { key_near(random, &world, &question) } else { key(random, &world) });
+    }
+    let profile = Profile { labels: world.labels.clone(), keys, classes: world.classes.clone() };
+    Asked { world, profile, question }
+}
+
+/// A tree of few labels and values, in which whole subtrees are written again.
+pub fn tree(random: &mut Random, world: &World, size: usize) -> Vec<Node> {
+    let mut nodes = vec![Node { parent: NONE, label: ROOT, value: 0 }];
+    let values = 1 + random.below(4);
+    while nodes.len() < size {
+        let parents: Vec<usize> =
+            (0..nodes.len()).filter(|&node| !world.classes.is_last_only(nodes[node].label)).collect();
+        let parent = if random.chance(1, 2) { *parents.last().unwrap() } else { random.one_of(&parents) };
+        if nodes.len() > 1 && random.chance(1, 6) {
+            let copied = 1 + random.below(nodes.len() - 1);
+            copy_below(random, world, &mut nodes, copied, size);
+            continue;
+        }
+        let label = if random.chance(1, 12) {
+            random.one_of(&[FILLER_ELEMENT, FILLER_ATTRIBUTE])
+        } else if random.chance(1, 2) {
+            random.one_of(&world.elements)
+        } else {
+            random.one_of(&world.last_only)
+        };
+        let value = if world.classes.is_last_only(label) { random.below(values) as u16 } else { 0 };
+        nodes.push(Node { parent: parent as u16, label, value });
+    }
+    // Last, elements with something below them, whose copies then stay as they are.
+    for _ in 0..random.below(3) {
+        let inner: Vec<usize> = (1..nodes.len()).filter(|&node| nodes.iter().any(|each| each.parent as usize == node)).collect();
+        if !inner.is_empty() && size < 1_000 {
+            let copied = random.one_of(&inner);
+            let most = nodes.len() + 20;
+            copy_below(random, world, &mut nodes, copied, most);
+        }
+    }
+    nodes
+}
+
+/// Writes a node with what lies below it once more, a value perhaps changed, the attributes perhaps
+/// after everything else: apart from each other, both lists keep their order.
+fn copy_below(random: &mut Random, world: &World, nodes: &mut Vec<Node>, copied: usize, size: usize) {
+    let last = nodes.len();
+    let mut inside = vec![false; last];
+    let mut order = Vec::new();
+    for node in copied..last {
+        let parent = nodes[node].parent;
+        if node == copied || (parent != NONE && inside[parent as usize]) {
+            inside[node] = true;
+            order.push(node);
+        }
+    }
+    if random.chance(1, 2) {
+        order.sort_by_key(|&node| world.classes.of(nodes[node].label) == Some(Class::Attribute));
+    }
+    let mut place = vec![0; last];
+    for node in order {
+        if nodes.len() >= size {
+            return;
+        }
+        let old = nodes[node];
+        let parent = if node == copied { old.parent } else { place[old.parent as usize] };
+        place[node] = nodes.len() as u16;
+        let changed = old.value != 0 && random.chance(1, 10);
+        let value = if changed { old.value - 1 } else { old.value };
+        nodes.push(Node { parent, label: old.label, value });
+    }
+}
+
+/// A key whose targets hold a node of the tree, so that it depends on the tree's values whether it is kept.
+pub fn key_on(random: &mut Random, world: &World, nodes: &[Node]) -> Key {
+    let mut labels: Path = Vec::new();
+    let inner: Vec<usize> = (1..nodes.len()).filter(|&node| nodes.iter().any(|each| each.parent as usize == node)).collect();
+    let mut at = random.below(nodes.len());
+    if !inner.is_empty() && nodes.len() < 1_000 && random.chance(1, 2) {
+        at = random.one_of(&inner);
+    }
+    while nodes[at].parent != NONE {
+        labels.push(nodes[at].label);
+        at = nodes[at].parent as usize;
+    }
+    labels.reverse();
+    // The fillers are in no path: any-paths take them.
+    let symbols: Path = labels.iter().map(|&label| if label < FILLER_ELEMENT { label } else { ANY_PATH }).collect();
+    let cut = random.below(symbols.len() + 1);
+    let mut end = cut + random.below(symbols.len() - cut + 1);
+    while !is_simple(&symbols[end..]) {
+        end += 1;
+    }
+    let mut paths = vec![symbols[end..].to_vec()];
+    if random.chance(1, 4) {
+        paths.push(path(random, world, 2, false));
+    }
+    in_order(&mut paths);
+    let key = Key { context: wider(random, &symbols[..cut.min(end)]), target: wider(random, &symbols[cut.min(end)..end]), paths };
+    if is_good(&key, &world.classes) {
+        key
+    } else {
+        self::key(random, world)
+    }
+}
+
+/// The evidence that the reference itself gives for a question.
+pub enum Evidence {
+    Proof(Vec<Line>),
+    Tree(Vec<Node>),
+}
+
+pub fn evidence(asked: &Asked) -> Evidence {
+    let pattern = Pattern::of(&asked.question);
+    match verdict(&pattern, &asked.profile.keys) {
+        Verdict::Implied => Evidence::Proof(proof(&asked.question, &asked.profile).unwrap_or_default()),
+        Verdict::NotImplied { u } => Evidence::Tree(counterexample(&pattern, u, &asked.profile)),
+    }
+}
+
+/// Lines each drawn from the ones before by a rule, now and then with a slip.
+pub fn derivation(random: &mut Random, asked: &Asked, length: usize) -> Vec<Line> {
+    let mut lines: Vec<Line> = Vec::new();
+    while lines.len() < length {
+        let rule = if lines.is_empty() { random.below(2) as u8 } else { random.below(10) as u8 };
+        let line = match rule {
+            0 if asked.profile.keys.is_empty() => continue,
+            0 => {
+                let number = random.below(asked.profile.keys.len());
+                Line { rule, first: number as u16, second: NONE, key: asked.profile.keys[number].clone() }
+            }
+            1 => {
+                let mut any = key(random, &asked.world);
+                any.context = join(&any.context, &any.target);
+                any.target.clear();
+                Line { rule, first: NONE, second: NONE, key: any }
+            }
+            9 => match interaction(random, &lines) {
+                Some(line) => line,
+                None => continue,
+            },
+            _ => {
+                let first = random.below(lines.len());
+                match from_one(random, &asked.world, rule, &lines[first].key) {
+                    Some(key) => Line { rule, first: first as u16, second: NONE, key },
+                    None => continue,
+                }
+            }
+        };
+        lines.push(if random.chance(1, 40) { slip(random, &asked.world, line) } else { line });
+    }
+    lines
+}
+
+/// A key that the rule gives from one premise, if it gives any.
+fn from_one(random: &mut Random, world: &World, rule: u8, old: &Key) -> Option<Key> {
+    let mut new = old.clone();
+    let cut = random.below(old.target.len() + 1);
+    let (x, p) = (old.target[..cut].to_vec(), old.target[cut..].to_vec());
+    let holds_empty = old.paths[0].is_empty();
+    match rule {
+        2 if holds_empty => {
+            for each in new.paths.iter_mut().skip(1) {
+                if random.chance(1, 2) {
+                    let more = inner_path(random, world, 2, false);
+                    each.extend(more);
+                }
+            }
+            in_order(&mut new.paths);
+        }
+        3 => {
+            new.paths.push(path(random, world, 2, false));
+            in_order(&mut new.paths);
+        }
+        4 if old.paths.len() == 1 && is_simple(&p) => {
+            new.target = x;
+            new.paths = vec![join(&p, &old.paths[0])];
+        }
+        5 => new.context = narrower(random, world, &old.context),
+        6 => new.target = narrower(random, world, &old.target),
+        7 => {
+            let split = cut > 0 && x.last() == Some(&ANY_PATH) && random.chance(1, 2);
+            new.context = join(&old.context, &x);
+            new.target = if split { [vec![ANY_PATH], p].concat() } else { p };
+        }
+        8 if holds_empty && old.paths.len() <= 2 && is_simple(&p) => {
+            new.target = x;
+            new.paths = vec![vec![], join(&p, old.paths.last().unwrap())];
+            in_order(&mut new.paths);
+        }
+        _ => return None,
+    }
+    let fits = new.context.len() <= LINE_SIZES.path && new.target.len() <= LINE_SIZES.path;
+    let short = new.paths.len() <= LINE_SIZES.count && new.paths.iter().all(|each| each.len() <= LINE_SIZES.key_path);
+    let way = join(&new.context, &new.target);
+    let valid = new.paths.iter().all(|each| is_valid(&join(&way, each), &world.classes));
+    if fits && short && valid {
+        Some(new)
+    } else {
+        None
+    }
+}
+
+/// A path included in the given one.
+fn narrower(random: &mut Random, world: &World, path: &[u8]) -> Path {
+    let mut symbols = Vec::new();
+    for &symbol in path {
+        if symbol == ANY_PATH && random.chance(1, 2) {
+            symbols.extend(inner_path(random, world, 2, true));
+        } else {
+            symbols.push(symbol);
+        }
+    }
+    normal_form(&symbols)
+}
+
+/// Two lines that rule 9 takes, if there are any.
+fn interaction(random: &mut Random, lines: &[Line]) -> Option<Line> {
+    let mut found = Vec::new();
+    for (i, first) in lines.iter().enumerate() {
+        for (j, second) in lines.iter().enumerate() {
+            let (one, two) = (&first.key, &second.key);
+            let mut lifted: Vec<Path> = two.paths.iter().map(|each| join(&two.target, each)).collect();
+            in_order(&mut lifted);
+            let is_near = two.context == join(&one.context, &one.target) || random.chance(1, 20);
+            if is_simple(&two.target) && is_near && lifted == one.paths {
+                let target = join(&one.target, &two.target);
+                let key = Key { context: one.context.clone(), target, paths: two.paths.clone() };
+                if key.target.len() <= LINE_SIZES.path {
+                    found.push(Line { rule: 9, first: i as u16, second: j as u16, key });
+                }
+            }
+        }
+    }
+    if found.is_empty() {
+        return None;
+    }
+    Some(random.one_of(&found))
+}
+
+/// A line that is still well formed but need not follow any more.
+fn slip(random: &mut Random, world: &World, line: Line) -> Line {
+    let mut slipped = line;
+    match random.below(5) {
+        0 => slipped.rule = random.below(11) as u8,
+        1 => slipped.first = random.one_of(&[0, 1, 2, 63, 64, NONE]),
+        2 => slipped.second = random.one_of(&[0, 1, NONE, 65_534]),
+        3 => slipped.key = key(random, world),
+        _ => slipped.key.paths.truncate(1),
+    }
+    slipped
+}
