@@ -1,3 +1,5 @@
 -- What the readers of whole inputs say, and their laws.
 pub mod Labels
 pub mod Keys
+pub mod Agree
+pub mod KeyWalks
