@@ -5,6 +5,7 @@ pub mod Bytes
 pub mod Heads
 pub mod KeyBodies
 pub mod Encodings
+pub mod HeadTests
 pub mod Judged
 pub mod Profiles
 pub mod TreeFiles

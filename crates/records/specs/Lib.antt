@@ -1,0 +1,4 @@
+-- What the readers of whole inputs say, and their laws.
+pub mod Labels
+pub mod Keys
+pub mod Agree
