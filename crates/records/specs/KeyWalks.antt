@@ -55,12 +55,12 @@ keys-start classes bytes small e =
       small = small;
       first = λ q. e;
       going = λ labels t n.
-        record {
-          state = labelled labels;
-          same = refl;
-          counted = refl;
-          walks = ap (λ (m : ℕ). walk profileTests profileNext 0 m (labelled labels) bytes) (add-zero n);
-        };
+          record {
+            state = labelled labels;
+            same = refl;
+            counted = refl;
+            walks = ap (λ (m : ℕ). walk profileTests profileNext 0 m (labelled labels) bytes) (add-zero n);
+          };
     }
 
 -- an accepted key record, as the code has it
@@ -142,12 +142,12 @@ keys-end {keys = keys} {rest = []} loop h =
     record {
       few = omega (arith, loop .size);
       came = λ labels tabled n.
-        let g = loop .going labels tabled n in
-        record {
-          state = g .state;
-          walked = sym (g .walks) ∙ walk-end profileTests profileNext (n + keys) (g .state);
-          same = g .same;
-          counted = g .counted;
-        };
+          let g = loop .going labels tabled n in
+          record {
+            state = g .state;
+            walked = sym (g .walks) ∙ walk-end profileTests profileNext (n + keys) (g .state);
+            same = g .same;
+            counted = g .counted;
+          };
     }
 keys-end {rest = b ∷ rest} loop h = absurd (omega arith)
