@@ -222,6 +222,12 @@ fn limits(tally: &mut Tally) {
     let with = |key: Vec<u8>| [labels.clone(), key].concat();
     tally.same("8 symbols", rewrite(&with(simple_key(vec![2; 8])), ROOM), Ok(with(simple_key(vec![2; 8]))));
     tally.refused("9 symbols", rewrite(&with(simple_key(vec![2; 9])), ROOM), (4, 1, 2));
+    let long = |context: usize, path: usize| {
+        key_record(&Key { context: vec![2; context], target: vec![2], paths: vec![vec![2; path]] })
+    };
+    tally.same("all of 8", rewrite(&with(long(8, 8)), ROOM), Ok(with(long(8, 8))));
+    tally.refused("context of 9", rewrite(&with(long(9, 8)), ROOM), (4, 1, 2));
+    tally.refused("key path of 9", rewrite(&with(long(8, 9)), ROOM), (4, 1, 2));
     tally.refused("question of 9", decide(&labels, &simple_key(vec![2; 9]), ROOM), (4, 2, 0));
     let paths = |count: usize| (0..count).map(|k| vec![2; k]).collect::<Vec<Path>>();
     let keyed = |count: usize| key_record(&Key { context: vec![], target: vec![], paths: paths(count) });
@@ -268,6 +274,8 @@ fn big_inputs(tally: &mut Tally) {
     let everywhere = key_record(&Key { context: vec![0], target: vec![0], paths: vec![vec![]] });
     tally.same("4,096 nodes", keep(&labels, &everywhere, &chain(4_096)), Ok(true));
     tally.refused("4,097 nodes", keep(&labels, &everywhere, &chain(4_097)), (7, 3, 0));
+    tally.refused("tree of full size", keep(&labels, &everywhere, &vec![9; TREE_BYTES]), (2, 3, 0));
+    tally.refused("a byte more", keep(&labels, &everywhere, &vec![9; TREE_BYTES + 1]), (7, 3, 0));
     let listed = list(&labels, &chain(4_096), 4, ROOM);
     tally.same("the last line alone", listed, Ok(b"4095 4094 2 -\n".to_vec()));
     tally.same("past the end", list(&labels, &chain(4_096), 5, ROOM), Ok(Vec::new()));
@@ -311,6 +319,12 @@ fn line_sizes(tally: &mut Tally, labels: &[u8]) {
     let more = [labels, &label_record(&Label { number: 7, class: 1, name: b"c".to_vec() })].concat();
     let q0 = hex(Q0);
     tally.refused("context of 32", check_proof(&more, &q0, &wide(32, 1, 0)), (10, 3, 0));
+    let aimed = |target: usize| {
+        let key = Key { context: vec![], target: vec![2; target], paths: vec![vec![]] };
+        line_record(&Line { rule: 1, first: NONE, second: NONE, key })
+    };
+    tally.refused("target of 32", check_proof(&more, &q0, &aimed(32)), (9, 3, 0));
+    tally.refused("target of 33", check_proof(&more, &q0, &aimed(33)), (4, 3, 0));
     tally.refused("context of 33", check_proof(&more, &q0, &wide(33, 1, 0)), (4, 3, 0));
     tally.refused("key path of 16", check_proof(&more, &q0, &wide(0, 16, 0)), (10, 3, 0));
     tally.refused("key path of 17", check_proof(&more, &q0, &wide(0, 17, 0)), (4, 3, 0));

@@ -67,9 +67,12 @@ pub fn in_order(paths: &mut Vec<Path>) {
 
 /// A key that stands in a profile without refusal.
 pub fn key(random: &mut Random, world: &World) -> Key {
-    let (way, branch, count) = if random.chance(1, 12) { (8, 8, 4) } else { (3, 2, 3) };
+    let (way, branch, count) = if random.chance(1, 8) { (8, 8, 4) } else { (4, 2, 3) };
     let mut context = inner_path(random, world, way - 1, true);
     let mut target = inner_path(random, world, way - 1, true);
+    if target.is_empty() && random.chance(3, 4) {
+        target.push(random.one_of(&world.elements));
+    }
     if random.chance(1, 8) {
         // An attribute or text as target, or as context of an empty target.
         let last = random.one_of(&world.last_only);
@@ -117,11 +120,18 @@ pub fn wider(random: &mut Random, symbols: &[u8]) -> Path {
 
 /// A profile key that lets some node of the question's pattern step upwards, or nearly does.
 fn key_near(random: &mut Random, world: &World, asked: &Key) -> Key {
+    let way = asked.context.len() + asked.target.len();
+    let branch = random.below(asked.paths.len());
+    let from = random.below(way + asked.paths[branch].len() + 1);
+    let to = random.below(from.min(way) + 1);
+    key_between(random, world, asked, branch, from, to)
+}
+
+/// The same with the place below, on the way C, T and one branch, and the place above given.
+fn key_between(random: &mut Random, world: &World, asked: &Key, branch: usize, from: usize, to: usize) -> Key {
     let way = [asked.context.as_slice(), &asked.target].concat();
-    let line = [way.as_slice(), &random.one_of(&asked.paths)].concat();
+    let line = [way.as_slice(), &asked.paths[branch]].concat();
     let holds_empty = asked.paths.iter().any(|each| each.is_empty());
-    let from = random.below(line.len() + 1);
-    let to = random.below(from.min(way.len()) + 1);
     let mut paths: Vec<Path> = Vec::new();
     for each in &asked.paths {
         let whole = [way.as_slice(), each].concat();
@@ -136,7 +146,7 @@ fn key_near(random: &mut Random, world: &World, asked: &Key) -> Key {
             }
         }
     }
-    if random.chance(1, 8) {
+    if random.chance(1, 12) {
         paths.push(path(random, world, 2, false));
     }
     in_order(&mut paths);
@@ -146,6 +156,26 @@ fn key_near(random: &mut Random, world: &World, asked: &Key) -> Key {
     } else {
         self::key(random, world)
     }
+}
+
+/// Keys whose steps together lead from t up to q, rung by rung; now and then a rung is missing.
+fn ladder(random: &mut Random, world: &World, asked: &Key) -> Vec<Key> {
+    let (c, n) = (asked.context.len(), asked.context.len() + asked.target.len());
+    let mut keys = Vec::new();
+    let mut upper = c;
+    while upper < n {
+        let branch = random.below(asked.paths.len());
+        let mut from = upper + 1 + random.below(n - upper);
+        if from == n {
+            from += random.below(asked.paths[branch].len() + 1);
+        }
+        let to = if random.chance(1, 2) { upper } else { random.below(upper + 1) };
+        if !random.chance(1, 10) {
+            keys.push(key_between(random, world, asked, branch, from, to));
+        }
+        upper = from;
+    }
+    keys
 }
 
 /// A world, a question and a profile of keys near it.
@@ -158,10 +188,12 @@ pub struct Asked {
 pub fn asked(random: &mut Random) -> Asked {
     let world = world(random);
     let question = key(random, &world);
-    let mut keys = Vec::new();
-    let count = if random.chance(1, 40) { 64 } else { random.below(5) };
-    for _ in 0..count {
-        keys.push(if random.chance(3, 4) { key_near(random, &world, &question) } else { key(random, &world) });
+    let mut keys = if random.chance(1, 2) { ladder(random, &world, &question) } else { Vec::new() };
+    let more = if random.chance(1, 40) { PROFILE_KEYS - keys.len() } else { random.below(4) };
+    for _ in 0..more {
+        let at = random.below(keys.len() + 1);
+        let next = if random.chance(3, 4) { key_near(random, &world, &question) } else { key(random, &world) };
+        keys.insert(at, next);
     }
     let profile = Profile { labels: world.labels.clone(), keys, classes: world.classes.clone() };
     Asked { world, profile, question }

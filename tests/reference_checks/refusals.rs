@@ -14,6 +14,7 @@ pub fn order(tally: &mut Tally) {
     tally.refused("6", of(key(&[6], &[2], &[&[]])), (6, 1, 2));
     tally.refused("6 by the empty path", of(key(&[], &[6], &[&[], &[2]])), (6, 1, 2));
     tally.refused("6, any-path after an attribute", of(key(&[6], &[0], &[&[]])), (6, 1, 2));
+    tally.refused("4 before 6", of(key(&[6], &[9], &[&[]])), (4, 1, 2));
     tally.refused("5 before 6", of(key(&[6], &[2], &[&[2], &[]])), (5, 1, 2));
     tally.refused("repeated", of(key(&[], &[2], &[&[2], &[2]])), (5, 1, 2));
     tally.refused("4 before 5", of(key(&[9], &[2], &[&[2], &[]])), (4, 1, 2));
@@ -75,6 +76,7 @@ fn nodes(tally: &mut Tally, labels: &[u8]) {
     tally.refused("below an attribute", of("09 00 03 00 00 00 06 00 00 09 00 03 00 01 00 02 00 00"), (8, 3, 2));
     tally.refused("below text", of("09 00 03 00 00 00 01 00 00 09 00 03 00 01 00 06 00 00"), (8, 3, 2));
     tally.refused("below a filler attribute", of("09 00 03 00 00 00 ca 00 00 09 00 03 00 01 00 06 00 00"), (8, 3, 2));
+    tally.refused("1 before 8", of("0a 00 03 00 09 00 cb 01 00 00"), (1, 3, 1));
     tally.refused("key in a tree", of(Q0), (2, 3, 1));
     tally.refused("body of 6", of("0a 00 03 00 00 00 02 00 00 00"), (1, 3, 1));
     tally.same("fillers", of("09 00 03 00 00 00 c9 00 00 09 00 03 00 01 00 ca ff ff"), Ok(true));
