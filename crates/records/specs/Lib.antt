@@ -1,0 +1,2 @@
+-- What the readers of whole inputs say, and their laws.
+pub mod Labels

@@ -1,0 +1,2 @@
+// Whole inputs judged from the front (document 01, "Refusal numbers"): "In each input its size, then records from the front".
+pub mod labels;

@@ -1,0 +1,2 @@
+pub mod Implied
+pub mod NotImplied

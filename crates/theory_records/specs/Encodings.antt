@@ -1,0 +1,141 @@
+-- Each kind of record: an accepted record's bytes are its encoding, and an encoding is read back.
+use Prim.Native.Nat.{ℕ, zero, suc, _+_, _*_, _/_, _%_, _-_, _≤_, _<_}
+use mathlib.Core.Path.{_≡_, refl, sym, subst, ap, _∙_}
+use mathlib.Core.Bool.{Bool, true, false, cond, _&&_}
+use mathlib.Core.List.{List, [], _∷_, _++_, map, flatten}
+use native.Mathlib.Omega.{arith}
+use borrow.Author.Tests.{leb-true, le-leb, eqb-true, eq-eqb}
+use lib.Dec.{leb, eqb}
+use lib.ListN.{length, getD, take, drop, length-append}
+use Rattle.meaning.specs.Lists.{Each, end, also}
+use Rattle.meaning.specs.Paths.{Label}
+use Rattle.meaning.specs.Trees.{Node}
+use Rattle.meaning.specs.Keys.{Key}
+use Rattle.meaning.specs.Rules.{Line}
+use Rattle.meaning.specs.Records.{word, wordBytes, recordLength, recordKind, recordBody, recordBytes, readLabel, labelBytes, keyIn, readKey, keyBody, keyBytes, readNode, nodeBytes, readLine, lineBytes, isSome, bodyEnds}
+use Rattle.meaning.specs.Refusals.{whole}
+use Rattle.theory_records.specs.Tests.{both, and-true}
+use Rattle.theory_records.specs.Bytes.{Bytes, bytes-drop, bytes-take, wordBytes-word, word-wordBytes}
+use Rattle.theory_records.specs.Heads.{Whole, record-written, written-length, written-kind, written-body, written-rest, bytes-length, body-length}
+use Rattle.theory_records.specs.KeyBodies.{key-in-written, key-in-read, key-is-read}
+
+-- What each kind says of the end of its body
+pub ends-label : (l : List ℕ) → Whole l → recordKind l ≡ 1 → 2 ≤ length (recordBody l)
+unfolding bodyEnds
+ends-label l w k = leb-true _ _ (subst (λ (kind : ℕ). bodyEnds kind (recordBody l) ≡ true) k (w .ends))
+
+pub ends-key : (l : List ℕ) → Whole l → recordKind l ≡ 2 → isSome (readKey (recordBody l)) ≡ true
+unfolding bodyEnds
+ends-key l w k = subst (λ (kind : ℕ). bodyEnds kind (recordBody l) ≡ true) k (w .ends)
+
+pub ends-node : (l : List ℕ) → Whole l → recordKind l ≡ 3 → length (recordBody l) ≡ 5
+unfolding bodyEnds
+ends-node l w k = eqb-true _ _ (subst (λ (kind : ℕ). bodyEnds kind (recordBody l) ≡ true) k (w .ends))
+
+pub ends-line : (l : List ℕ) → Whole l → recordKind l ≡ 4 → (5 ≤ length (recordBody l)) × (isSome (readKey (drop 5 (recordBody l))) ≡ true)
+unfolding bodyEnds
+ends-line l w k =
+    let e = both _ _ (subst (λ (kind : ℕ). bodyEnds kind (recordBody l) ≡ true) k (w .ends)) in
+    (leb-true _ _ (e .0), e .1)
+
+-- the bytes of a record whose kind and body are known
+pub record-is : (l : List ℕ) → Bytes l → Whole l → (kind : ℕ) → recordKind l ≡ kind → (body : List ℕ) → body ≡ recordBody l
+    → recordBytes kind body ++ drop (recordLength l) l ≡ l
+record-is l bs w kind k body e = rw (e, ← k) (record-written l bs (w .head) (w .long) (w .within))
+
+pub bytes-body : (l : List ℕ) → Bytes l → Bytes (recordBody l)
+unfolding recordBody
+bytes-body l bs = bytes-take (recordLength l - 4) (bytes-drop 4 bs)
+
+-- Kind 1
+label-body : (body : List ℕ) → 2 ≤ length body → getD body 0 0 ∷ getD body 1 0 ∷ drop 2 body ≡ body
+label-body [] h = absurd (omega arith)
+label-body (a ∷ []) h = absurd (omega arith)
+label-body (a ∷ b ∷ l) h = refl
+
+pub label-written : (l : List ℕ) → Bytes l → Whole l → recordKind l ≡ 1
+    → labelBytes (readLabel (recordBody l)) ++ drop (recordLength l) l ≡ l
+unfolding labelBytes readLabel
+label-written l bs w k = record-is l bs w 1 k _ (label-body (recordBody l) (ends-label l w k))
+
+-- Kind 2
+pub key-record-written : (l : List ℕ) → Bytes l → Whole l → recordKind l ≡ 2
+    → keyBytes (keyIn (recordBody l)) ++ drop (recordLength l) l ≡ l
+unfolding keyBytes
+key-record-written l bs w k = record-is l bs w 2 k _ (key-in-written (recordBody l) (ends-key l w k))
+
+-- Kind 3
+node-body : (body : List ℕ) → Bytes body → length body ≡ 5
+    → wordBytes (word body 0) ++ (getD body 2 0 ∷ wordBytes (word body 3)) ≡ body
+node-body body bs h = rw (wordBytes-word body 0 bs, wordBytes-word body 3 bs) (five body h)
+  where
+    five : (l : List ℕ) → length l ≡ 5
+        → getD l 0 0 ∷ getD l 1 0 ∷ getD l 2 0 ∷ getD l 3 0 ∷ getD l 4 0 ∷ [] ≡ l
+    five [] h = absurd (omega arith)
+    five (a ∷ []) h = absurd (omega arith)
+    five (a ∷ b ∷ []) h = absurd (omega arith)
+    five (a ∷ b ∷ c ∷ []) h = absurd (omega arith)
+    five (a ∷ b ∷ c ∷ d ∷ []) h = absurd (omega arith)
+    five (a ∷ b ∷ c ∷ d ∷ e ∷ []) h = refl
+    five (a ∷ b ∷ c ∷ d ∷ e ∷ f ∷ l) h = absurd (omega arith)
+
+pub node-written : (l : List ℕ) → Bytes l → Whole l → recordKind l ≡ 3
+    → nodeBytes (readNode (recordBody l)) ++ drop (recordLength l) l ≡ l
+unfolding nodeBytes readNode
+node-written l bs w k = record-is l bs w 3 k _ (node-body (recordBody l) (bytes-body l bs) (ends-node l w k))
+
+-- Kind 4
+line-body : (body : List ℕ) → Bytes body → 5 ≤ length body
+    → getD body 0 0 ∷ (wordBytes (word body 1) ++ (wordBytes (word body 3) ++ drop 5 body)) ≡ body
+line-body body bs h = rw (wordBytes-word body 1 bs, wordBytes-word body 3 bs) (five body h)
+  where
+    five : (l : List ℕ) → 5 ≤ length l
+        → getD l 0 0 ∷ getD l 1 0 ∷ getD l 2 0 ∷ getD l 3 0 ∷ getD l 4 0 ∷ drop 5 l ≡ l
+    five [] h = absurd (omega arith)
+    five (a ∷ []) h = absurd (omega arith)
+    five (a ∷ b ∷ []) h = absurd (omega arith)
+    five (a ∷ b ∷ c ∷ []) h = absurd (omega arith)
+    five (a ∷ b ∷ c ∷ d ∷ []) h = absurd (omega arith)
+    five (a ∷ b ∷ c ∷ d ∷ e ∷ l) h = refl
+
+pub line-written : (l : List ℕ) → Bytes l → Whole l → recordKind l ≡ 4
+    → lineBytes (readLine (recordBody l)) ++ drop (recordLength l) l ≡ l
+unfolding lineBytes readLine
+line-written l bs w k =
+    let ends = ends-line l w k in
+    record-is l bs w 4 k _
+    (rw (key-in-written (drop 5 (recordBody l)) (ends .1)) (line-body (recordBody l) (bytes-body l bs) (ends .0)))
+
+-- An encoding with a rest behind it is a whole record exactly where its kind takes the body
+pub written-whole : (kind : ℕ) (body rest : List ℕ) → 4 + length body < 65536 → kind < 65536
+    → whole (recordBytes kind body ++ rest) ≡ bodyEnds kind body
+unfolding whole
+written-whole kind body rest fits small =
+    let all : List ℕ = recordBytes kind body ++ rest in
+    let long : recordLength all ≡ 4 + length body = written-length kind body rest fits in
+    let size : length all ≡ 4 + length body + length rest =
+    length-append (recordBytes kind body) rest ∙ ap (λ (n : ℕ). n + length rest) (bytes-length kind body) in
+    let one : leb 4 (length all) ≡ true = le-leb 4 (length all) (omega arith) in
+    let two : leb 4 (recordLength all) ≡ true = le-leb 4 (recordLength all) (omega arith) in
+    let three : leb (recordLength all) (length all) ≡ true = le-leb (recordLength all) (length all) (omega arith) in
+    rw (one, two, three, written-kind kind body rest small, written-body kind body rest fits)
+
+pub node-read : (n : Node) → n .parent < 65536 → n .value < 65536
+    → readNode (wordBytes (n .parent) ++ (n .label ∷ wordBytes (n .value))) ≡ n
+unfolding readNode word wordBytes
+node-read n p v =
+    let parent : n .parent % 256 + 256 * (n .parent / 256 % 256) ≡ n .parent = word-wordBytes (n .parent) [] p in
+    let value : n .value % 256 + 256 * (n .value / 256 % 256) ≡ n .value = word-wordBytes (n .value) [] v in
+    λ i. record { parent = parent i; label = n .label; value = value i }
+
+pub line-read : (x : Line) → x .first < 65536 → x .second < 65536
+    → readLine (x .rule ∷ (wordBytes (x .first) ++ (wordBytes (x .second) ++ keyBody (x .key)))) ≡ x
+unfolding readLine word wordBytes
+line-read x p v =
+    let first : x .first % 256 + 256 * (x .first / 256 % 256) ≡ x .first = word-wordBytes (x .first) [] p in
+    let second : x .second % 256 + 256 * (x .second / 256 % 256) ≡ x .second = word-wordBytes (x .second) [] v in
+    λ i. record { rule = x .rule; first = first i; second = second i; key = key-in-read (x .key) i }
+
+pub label-read : (x : Label) → readLabel (x .number ∷ x .class ∷ x .name) ≡ x
+unfolding readLabel
+label-read x = refl

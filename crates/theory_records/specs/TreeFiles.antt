@@ -1,0 +1,280 @@
+-- An accepted tree file: nine bytes to a node, what each node says, and that it is a tree.
+use Prim.Native.Nat.{ℕ, zero, suc, _+_, _*_, _-_, _≤_, _<_}
+use mathlib.Core.Path.{_≡_, refl, sym, subst, ap, _∙_}
+use mathlib.Core.Logic.{_⊎_, inl, inr, ⊎-elim, _≢_}
+use mathlib.Core.Bool.{Bool, true, false, cond, not, _&&_, _||_}
+use mathlib.Core.List.{List, [], _∷_, _++_, map, flatten, append-assoc, append-nil}
+use native.Mathlib.Omega.{arith}
+use native.Mathlib.Nat.{eq-or-lt-of-le}
+use borrow.Author.Tests.{leb-true, ltb-true, eqb-true, eqb-false, not-false}
+use lib.Dec.{leb, ltb, eqb}
+use lib.ListN.{length, getD, drop, take, length-append, length-drop, List·getD-append}
+use lib.Seq.{getD-drop, getD-take, drop-drop, getD-append-seam}
+use Rattle.meaning.specs.Lists.{Each, end, also, isEmpty}
+use Rattle.meaning.specs.Paths.{Class, Label, element, attribute, text, isElement, classOf, isLabel, declared}
+use Rattle.meaning.specs.Trees.{Table, Node, noNode, tableOf, Placed, IsTree}
+use Rattle.meaning.specs.Records.{word, recordLength, recordKind, recordBody, readNode, nodeBytes}
+use Rattle.meaning.specs.Refusals.{Refusal, sound, firstOf, walk, goodRoot, goodBelow, treeTests, treeWalked, nodesIn, treeRefusal}
+use Rattle.theory_paths.specs.Bools.{of-true}
+use Rattle.theory_paths.specs.Good.{GoodLabels, declared-between}
+use Rattle.theory_records.specs.Tests.{both, either, never}
+use Rattle.theory_records.specs.Walks.{Stopped, walk-keeps}
+use Rattle.theory_records.specs.Bytes.{Bytes, bytes-drop}
+use Rattle.theory_records.specs.Heads.{Whole, body-length}
+use Rattle.theory_records.specs.Encodings.{ends-node, node-written}
+use Rattle.theory_records.specs.Judged.{NodeAccepted, node-accepted}
+use Rattle.theory_records.specs.Profiles.{one-more, length-more, refusal-none, within-size}
+
+-- node i of the bytes
+unfoldable pub nodeAt : List ℕ → ℕ → Node
+nodeAt bytes i = record { parent = word bytes (9 * i + 4); label = getD bytes (9 * i + 6) 0; value = word bytes (9 * i + 7) }
+
+pub body-at : (l : List ℕ) (i : ℕ) → i < recordLength l - 4 → getD (recordBody l) i 0 ≡ getD l (4 + i) 0
+unfolding recordBody
+body-at l i h = getD-take (recordLength l - 4) (drop 4 l) i 0 h ∙ getD-drop 4 l i 0
+
+-- "Every record: length of the whole record": a node's is nine
+pub node-length : (l : List ℕ) → Whole l → recordKind l ≡ 3 → recordLength l ≡ 9
+node-length l w k = omega (arith, w .long, body-length l (w .within), ends-node l w k)
+
+read-node-at : (bytes : List ℕ) (i : ℕ) (l : List ℕ) → l ≡ drop (9 * i) bytes → recordLength l ≡ 9 → readNode (recordBody l) ≡ nodeAt bytes i
+unfolding readNode nodeAt word
+read-node-at bytes i l e nine =
+    λ k.
+    record {
+      parent = byte 0 (9 * i + 4) (omega arith) (omega arith) k + 256 * byte 1 (9 * i + 4 + 1) (omega arith) (omega arith) k;
+      label = byte 2 (9 * i + 6) (omega arith) (omega arith) k;
+      value = byte 3 (9 * i + 7) (omega arith) (omega arith) k + 256 * byte 4 (9 * i + 7 + 1) (omega arith) (omega arith) k;
+    }
+  where
+    byte : (j m : ℕ) → j < 5 → m ≡ 9 * i + (4 + j) → getD (recordBody l) j 0 ≡ getD bytes m 0
+    byte j m h q =
+        let inside : j < recordLength l - 4 = omega arith in
+        body-at l j inside
+        ∙ (ap (λ (x : List ℕ). getD x (4 + j) 0) e ∙ (getD-drop (9 * i) bytes (4 + j) 0 ∙ ap (λ (x : ℕ). getD bytes x 0) (sym q)))
+
+-- What acceptance says of a node below the root: "A node's parent has a smaller number", "parent is attribute or text", "An element's value is 0"
+pub record NodeBelow (labels : List Label) (nodes : List Node) (i : ℕ) : Type 0 where
+  pub above : getD nodes i noNode .parent < i
+  pub inside : isElement (classOf labels (getD nodes (getD nodes i noNode .parent) noNode .label)) ≡ true
+  pub known : isLabel labels (getD nodes i noNode .label) ≡ true
+  pub value : not (isElement (classOf labels (getD nodes i noNode .label))) || eqb (getD nodes i noNode .value) 0 ≡ true
+
+-- "the root is node 0 with parent 65535"
+pub record NodesGood (labels : List Label) (nodes : List Node) : Type 0 where
+  pub root : 0 < length nodes → goodRoot (getD nodes 0 noNode) ≡ true
+  pub below : (i : ℕ) → 0 < i → i < length nodes → NodeBelow labels nodes i
+
+below-says : (labels : List Label) (nodes : List Node) (x : Node) → goodBelow labels nodes x ≡ true
+    → NodeBelow labels (nodes ++ (x ∷ [])) (length nodes)
+unfolding goodBelow
+below-says labels nodes x e =
+    let c = both _ _ e in
+    let b = both _ _ (c .0) in
+    let a = both _ _ (b .0) in
+    let up : x .parent < length nodes = ltb-true _ _ (a .0) in
+    let last : getD (nodes ++ (x ∷ [])) (length nodes) noNode ≡ x = getD-append-seam nodes x [] noNode in
+    let old : getD (nodes ++ (x ∷ [])) (x .parent) noNode ≡ getD nodes (x .parent) noNode =
+    List·getD-append nodes (x ∷ []) noNode (x .parent) up in
+    record {
+      above = rw last up;
+      inside = rw (last, old) (a .1);
+      known = rw last (b .1);
+      value = rw last (c .1);
+    }
+
+below-stays : (labels : List Label) (nodes : List Node) (x : Node) (i : ℕ) → i < length nodes → NodeBelow labels nodes i
+    → NodeBelow labels (nodes ++ (x ∷ [])) i
+below-stays labels nodes x i h g =
+    let same : getD (nodes ++ (x ∷ [])) i noNode ≡ getD nodes i noNode = List·getD-append nodes (x ∷ []) noNode i h in
+    let up : getD nodes i noNode .parent < length nodes = omega (arith, g .above) in
+    let old : getD (nodes ++ (x ∷ [])) (getD nodes i noNode .parent) noNode ≡ getD nodes (getD nodes i noNode .parent) noNode =
+    List·getD-append nodes (x ∷ []) noNode (getD nodes i noNode .parent) up in
+    record { above = rw same (g .above); inside = rw (same, old) (g .inside); known = rw same (g .known); value = rw same (g .value) }
+
+good-more : (labels : List Label) (nodes : List Node) (x : Node) → NodesGood labels nodes
+    → cond (isEmpty nodes) (goodRoot x) (goodBelow labels nodes x) ≡ true → NodesGood labels (nodes ++ (x ∷ []))
+unfolding isEmpty
+good-more labels [] x g e = record { root = λ h. e; below = λ i h k. absurd (omega arith) }
+good-more labels (y ∷ nodes) x g e =
+    record {
+      root = λ h. g .root (omega arith);
+      below =
+          λ i h k.
+          let small : i ≤ length (y ∷ nodes) = omega (arith, length-more (y ∷ nodes) x) in
+          ⊎-elim
+          (λ (q : i ≡ length (y ∷ nodes)). subst (λ (j : ℕ). NodeBelow labels (y ∷ nodes ++ (x ∷ [])) j) (sym q) (below-says labels (y ∷ nodes) x e))
+          (λ (q : i < length (y ∷ nodes)). below-stays labels (y ∷ nodes) x i q (g .below i h q))
+          (eq-or-lt-of-le small);
+    }
+
+-- What holds of the nodes read so far
+pub record TreeAt (labels : List Label) (bytes : List ℕ) (n : ℕ) (nodes : List Node) (rest : List ℕ) : Type 0 where
+  pub counted : n ≡ length nodes
+  pub left : rest ≡ drop (9 * length nodes) bytes
+  pub within : 9 * length nodes ≤ length bytes
+  pub few : length nodes ≤ 4096
+  pub are : (i : ℕ) → i < length nodes → getD nodes i noNode ≡ nodeAt bytes i
+  pub good : NodesGood labels nodes
+
+nine-more : (k m : ℕ) → m ≡ suc k → 9 * k + 9 ≡ 9 * m
+nine-more k m e = omega arith
+
+at-most : (i m k : ℕ) → m ≡ suc k → i < m → i ≤ k
+at-most i m k e h = omega arith
+
+pub tree-kept : (labels : List Label) (bytes : List ℕ) (n : ℕ) (nodes : List Node) (l : List ℕ) → TreeAt labels bytes n nodes l → 0 < length l
+    → firstOf (treeTests labels nodes l) ≡ 0
+    → TreeAt labels bytes (suc n) (nodes ++ (readNode (recordBody l) ∷ [])) (drop (recordLength l) l)
+tree-kept labels bytes n nodes l g h e =
+    let a = node-accepted labels nodes l e in
+    let nine : recordLength l ≡ 9 = node-length l (a .isWhole) (a .kind) in
+    let x : Node = readNode (recordBody l) in
+    let more : length (nodes ++ (x ∷ [])) ≡ suc (length nodes) = length-more nodes x in
+    let size : length l ≡ length bytes - 9 * length nodes = ap length (g .left) ∙ length-drop (9 * length nodes) bytes in
+    record {
+      counted = omega (arith, g .counted);
+      left =
+          ap (λ (k : ℕ). drop k l) nine
+          ∙ (ap (λ (r : List ℕ). drop 9 r) (g .left)
+          ∙ (drop-drop 9 (9 * length nodes) bytes ∙ ap (λ (k : ℕ). drop k bytes) (nine-more (length nodes) _ more)));
+      within = omega (arith, a .isWhole .within, g .within);
+      few = omega (arith, a .room);
+      are =
+          λ i k.
+          ⊎-elim
+          (λ (q : i ≡ length nodes).
+          ap (λ (j : ℕ). getD (nodes ++ (x ∷ [])) j noNode) q
+          ∙ (getD-append-seam nodes x [] noNode ∙ (read-node-at bytes (length nodes) l (g .left) nine ∙ ap (nodeAt bytes) (sym q))))
+          (λ (q : i < length nodes). List·getD-append nodes (x ∷ []) noNode i q ∙ g .are i q)
+          (eq-or-lt-of-le (at-most i _ _ more k));
+      good = good-more labels nodes x (g .good) (a .good);
+    }
+
+pub tree-long : (labels : List Label) (nodes : List Node) (l : List ℕ) → 0 < length l → firstOf (treeTests labels nodes l) ≡ 0
+    → 1 ≤ recordLength l
+tree-long labels nodes l h e = omega (arith, node-accepted labels nodes l e .isWhole .long)
+
+pub tree-none : (labels : List Label) (bytes : List ℕ) → TreeAt labels bytes 0 [] bytes
+tree-none labels bytes =
+    record {
+      counted = refl;
+      left = refl;
+      within = omega arith;
+      few = omega arith;
+      are = λ i h. absurd (omega arith);
+      good = record { root = λ h. absurd (omega arith); below = λ i h k. absurd (omega arith) };
+    }
+
+pub tree-stop : (labels : List Label) (bytes : List ℕ) → Stopped (treeTests labels) (TreeAt labels bytes) (treeWalked labels bytes)
+unfolding treeWalked
+tree-stop labels bytes =
+    walk-keeps (treeTests labels) _ (TreeAt labels bytes) (tree-long labels) (tree-kept labels bytes) 0 [] bytes (tree-none labels bytes)
+
+-- What acceptance of a tree says
+pub record TreeAccepted (labels : List Label) (bytes : List ℕ) : Type 0 where
+  pub size : length bytes ≡ 9 * length (nodesIn labels bytes)
+  pub some : 0 < length (nodesIn labels bytes)
+  pub few : length (nodesIn labels bytes) ≤ 4096
+  pub are : (i : ℕ) → i < length (nodesIn labels bytes) → getD (nodesIn labels bytes) i noNode ≡ nodeAt bytes i
+  pub good : NodesGood labels (nodesIn labels bytes)
+
+pub tree-accepts : (labels : List Label) (bytes : List ℕ) → treeRefusal labels bytes .number ≡ 0 → TreeAccepted labels bytes
+unfolding treeRefusal nodesIn isEmpty
+tree-accepts labels bytes e =
+    let one = refusal-none _ _ e in
+    let two = refusal-none _ _ (one .1) in
+    let three = refusal-none _ _ (two .1) in
+    let w = tree-stop labels bytes in
+    let all : [] ≡ drop (9 * length (nodesIn labels bytes)) bytes = sym (w .sound (two .0)) ∙ w .held .left in
+    let none : 0 ≡ length bytes - 9 * length (nodesIn labels bytes) =
+    ap length all ∙ length-drop (9 * length (nodesIn labels bytes)) bytes in
+    let size : length bytes ≡ 9 * length (nodesIn labels bytes) = omega (arith, w .held .within) in
+    let any : 0 < length bytes = not-empty bytes (three .0) in
+    record { size = size; some = omega arith; few = w .held .few; are = w .held .are; good = w .held .good }
+  where
+    not-empty : (l : List ℕ) → cond (isEmpty l) (record { number = 8; input = 3; place = 0 }) sound .number ≡ 0 → 0 < length l
+    not-empty [] h = absurd (omega arith)
+    not-empty (b ∷ l) h = omega arith
+
+-- A label of a file is not the root's, where the declared labels are "2 to 200"
+pub label-not-root : (labels : List Label) → GoodLabels labels → (n : ℕ) → isLabel labels n ≡ true → n ≢ 203
+unfolding isLabel
+label-not-root labels g n e q =
+    ⊎-elim
+    (λ (x : eqb n 1 || declared labels n || eqb n 201 ≡ true).
+    ⊎-elim
+    (λ (y : eqb n 1 || declared labels n ≡ true).
+    ⊎-elim (λ (z : eqb n 1 ≡ true). omega (arith, eqb-true n 1 z)) (λ (z : declared labels n ≡ true). omega (arith, declared-between labels g n (of-true _ z) .1))
+    (either _ _ y))
+    (λ (y : eqb n 201 ≡ true). omega (arith, eqb-true n 201 y))
+    (either _ _ x))
+    (λ (x : eqb n 202 ≡ true). omega (arith, eqb-true n 202 x))
+    (either _ _ e)
+
+is-element : (c : Class) → isElement c ≡ true → c ≡ element
+unfolding isElement
+is-element element e = refl
+is-element attribute e = absurd (never _ e refl)
+is-element text e = absurd (never _ e refl)
+
+pub root-says : (n : Node) → goodRoot n ≡ true → (n .parent ≡ 65535) × (n .label ≡ 203) × (n .value ≡ 0)
+unfolding goodRoot
+root-says n e =
+    let b = both _ _ e in
+    let a = both _ _ (b .0) in
+    (eqb-true _ _ (a .0), eqb-true _ _ (a .1), eqb-true _ _ (b .1))
+
+-- the file's table is a tree
+pub nodes-tree : (labels : List Label) → GoodLabels labels → (nodes : List Node) → 0 < length nodes
+    → NodesGood labels nodes → IsTree (classOf labels) (tableOf nodes)
+unfolding tableOf
+nodes-tree labels between nodes h g =
+    record {
+      some = h;
+      root = root-says (getD nodes 0 noNode) (g .root h) .1;
+      rest =
+          λ n pos inside.
+          let b = g .below n pos inside in
+          record { above = b .above; inside = is-element _ (b .inside); notRoot = label-not-root labels between _ (b .known) };
+    }
+
+pub tree-is-tree : (labels : List Label) → GoodLabels labels → (bytes : List ℕ) → treeRefusal labels bytes .number ≡ 0
+    → IsTree (classOf labels) (tableOf (nodesIn labels bytes))
+tree-is-tree labels between bytes e =
+    let a = tree-accepts labels bytes e in
+    nodes-tree labels between (nodesIn labels bytes) (a .some) (a .good)
+
+-- the bytes of a tree are the encodings of its nodes
+pub record TreeWritten (bytes : List ℕ) (n : ℕ) (nodes : List Node) (rest : List ℕ) : Type 0 where
+  pub small : Bytes rest
+  pub are : flatten (map nodeBytes nodes) ++ rest ≡ bytes
+
+tree-written-kept : (labels : List Label) (bytes : List ℕ) (n : ℕ) (nodes : List Node) (l : List ℕ) → TreeWritten bytes n nodes l → 0 < length l
+    → firstOf (treeTests labels nodes l) ≡ 0
+    → TreeWritten bytes (suc n) (nodes ++ (readNode (recordBody l) ∷ [])) (drop (recordLength l) l)
+tree-written-kept labels bytes n nodes l g h e =
+    let a = node-accepted labels nodes l e in
+    record {
+      small = bytes-drop (recordLength l) (g .small);
+      are =
+          one-more nodeBytes nodes (readNode (recordBody l)) (drop (recordLength l) l) l bytes
+          (node-written l (g .small) (a .isWhole) (a .kind)) (g .are);
+    }
+
+pub tree-written : (labels : List Label) (bytes : List ℕ) → Bytes bytes → treeRefusal labels bytes .number ≡ 0
+    → flatten (map nodeBytes (nodesIn labels bytes)) ≡ bytes
+unfolding treeRefusal nodesIn treeWalked
+tree-written labels bytes small e =
+    let one = refusal-none _ _ e in
+    let two = refusal-none _ _ (one .1) in
+    let w =
+    walk-keeps (treeTests labels) (λ (nodes : List Node) (l : List ℕ). nodes ++ (readNode (recordBody l) ∷ [])) (TreeWritten bytes)
+    (tree-long labels)
+    (tree-written-kept labels bytes)
+    0
+    []
+    bytes
+    (record { small = small; are = unfold flatten in refl }) in
+    sym (append-nil (flatten (map nodeBytes (nodesIn labels bytes))))
+    ∙ subst (λ (rest : List ℕ). flatten (map nodeBytes (nodesIn labels bytes)) ++ rest ≡ bytes) (w .sound (two .0)) (w .held .are)

@@ -1,0 +1,168 @@
+-- A profile that is written is accepted and read back.
+use Prim.Native.Nat.{ℕ, zero, suc, _+_, _≤_, _<_}
+use mathlib.Core.Path.{_≡_, refl, sym, subst, ap, _∙_}
+use mathlib.Core.Bool.{Bool, true, false, cond, _&&_, _||_, not}
+use mathlib.Core.List.{List, [], _∷_, _++_, map, flatten, append-assoc, append-nil}
+use native.Mathlib.Omega.{arith}
+use native.Mathlib.Nat.{zero-add}
+use borrow.Author.Tests.{le-leb, le-ltb, leb-true}
+use lib.Dec.{leb, ltb, eqb}
+use lib.ListN.{length, drop, length-append}
+use lib.Seq.{append-snoc}
+use Rattle.meaning.specs.Limits.{inProfile}
+use Rattle.meaning.specs.Lists.{Each, end, also, every, any, same}
+use Rattle.meaning.specs.Paths.{Label}
+use Rattle.meaning.specs.Keys.{Key}
+use Rattle.meaning.specs.Records.{recordLength, recordKind, recordBody, recordBytes, bodyEnds, readLabel, labelBytes, keyIn, keyBody, keyBytes}
+use Rattle.meaning.specs.Refusals.{Refusal, sound, firstRefusal, oversize, Walked, firstOf, walk, isLetter, inName, isName, goodLabel, keyTests, Profile, noProfile, profileTests, profileNext, profileWalked, profileIn, profileRefusal}
+use Rattle.theory_paths.specs.Good.{GoodKey, tests-of-good}
+use Rattle.theory_records.specs.Tests.{both, never}
+use Rattle.theory_records.specs.Walks.{walk-end}
+use Rattle.theory_records.specs.Heads.{written-kind, written-body}
+use Rattle.theory_records.specs.KeyBodies.{key-in-read, key-is-read}
+use Rattle.theory_records.specs.Encodings.{written-whole, label-read}
+use Rattle.theory_records.specs.Judged.{profile-label-passes, profile-key-passes}
+use Rattle.theory_records.specs.Profiles.{profileBytes, LabelsRead, noLabel, oneMore, next-label, next-key}
+use Rattle.theory_records.specs.Written.{Reads, AllRead, noMore, oneRead, addAll, walk-written, record-some, record-long, record-behind}
+use Rattle.theory_records.specs.WrittenInputs.{profile-body-size}
+
+abbrev addLabel : Profile → Label → Profile
+addLabel p x = record { labels = p .labels ++ (x ∷ []); keys = p .keys }
+
+abbrev addKey : Profile → Key → Profile
+addKey p k = record { labels = p .labels; keys = p .keys ++ (k ∷ []) }
+
+abbrev labelled : List Label → Profile
+labelled labels = record { labels = labels; keys = [] }
+
+-- "name, the rest, 1 to 32 bytes"
+name-length : (name : List ℕ) → isName name ≡ true → length name ≤ 32
+unfolding isName
+name-length [] e = absurd (never false e refl)
+name-length (b ∷ name) e = leb-true _ _ (both (isLetter b && every inName name) (leb (suc (length name)) 32) e .1)
+
+pub good-name : (labels : List Label) (x : Label) → goodLabel labels x ≡ true → isName (x .name) ≡ true
+unfolding goodLabel
+good-name labels x e =
+    let numbers : Bool = leb 2 (x .number) && leb (x .number) 200 && every (λ (k : Label). ltb (k .number) (x .number)) labels in
+    let class : Bool = numbers && (eqb (x .class) 1 || eqb (x .class) 2) in
+    both class (isName (x .name)) (both (class && isName (x .name)) (not (any (λ (k : Label). same (k .name) (x .name)) labels)) e .0) .1
+
+label-reads : (labels : List Label) (x : Label) → goodLabel labels x ≡ true
+    → Reads profileTests profileNext addLabel labelBytes (labelled labels) x
+unfolding labelBytes
+label-reads labels x good =
+    record {
+      some = record-some 1 body size;
+      accepted =
+          λ rest.
+          profile-label-passes (labelled labels) (recordBytes 1 body ++ rest) refl
+          (written-whole 1 body rest size (omega arith) ∙ (unfold bodyEnds in le-leb 2 (length body) (omega arith)))
+          (written-kind 1 body rest (omega arith))
+          (rw (same rest) good);
+      long = record-long 1 body size;
+      behind = record-behind 1 body size;
+      read =
+          λ rest.
+          next-label (labelled labels) (recordBytes 1 body ++ rest) (written-kind 1 body rest (omega arith))
+          ∙ ap (λ (y : Label). addLabel (labelled labels) y) (same rest);
+    }
+  where
+    body : List ℕ
+    body = x .number ∷ x .class ∷ x .name
+
+    size : 4 + length body < 65536
+    size = omega (arith, name-length (x .name) (good-name labels x good))
+
+    same : (rest : List ℕ) → readLabel (recordBody (recordBytes 1 body ++ rest)) ≡ x
+    same rest = ap readLabel (written-body 1 body rest size) ∙ label-read x
+
+key-record-reads : (p : Profile) (k : Key) → GoodKey (p .labels) inProfile k → length (p .keys) < 64
+    → Reads profileTests profileNext addKey keyBytes p k
+unfolding keyBytes
+key-record-reads p k good room =
+    record {
+      some = record-some 2 (keyBody k) size;
+      accepted =
+          λ rest.
+          profile-key-passes p (recordBytes 2 (keyBody k) ++ rest) room
+          (written-whole 2 (keyBody k) rest size (omega arith) ∙ (unfold bodyEnds in key-is-read k))
+          (written-kind 2 (keyBody k) rest (omega arith))
+          (rw (same rest) (tests-of-good (p .labels) inProfile k good));
+      long = record-long 2 (keyBody k) size;
+      behind = record-behind 2 (keyBody k) size;
+      read =
+          λ rest.
+          next-key p (recordBytes 2 (keyBody k) ++ rest) (written-kind 2 (keyBody k) rest (omega arith))
+          ∙ ap (λ (y : Key). addKey p y) (same rest);
+    }
+  where
+    size : 4 + length (keyBody k) < 65536
+    size = omega (arith, profile-body-size (p .labels) k good)
+
+    same : (rest : List ℕ) → keyIn (recordBody (recordBytes 2 (keyBody k) ++ rest)) ≡ k
+    same rest = ap keyIn (written-body 2 (keyBody k) rest size) ∙ key-in-read k
+
+-- one more at the end of what reads
+read-more : {s : Profile} {xs : List Label} {x : Label} → AllRead profileTests profileNext addLabel labelBytes s xs
+    → Reads profileTests profileNext addLabel labelBytes (addAll profileTests profileNext addLabel labelBytes s xs) x
+    → AllRead profileTests profileNext addLabel labelBytes s (xs ++ (x ∷ []))
+read-more noMore r = oneRead r noMore
+read-more (oneRead q qs) r = oneRead q (read-more qs r)
+
+add-labels : (s xs : List Label) → addAll profileTests profileNext addLabel labelBytes (labelled s) xs ≡ labelled (s ++ xs)
+add-labels s [] = ap labelled (sym (append-nil s))
+add-labels s (x ∷ xs) = add-labels (s ++ (x ∷ [])) xs ∙ ap labelled (append-snoc s x xs)
+
+labels-read : {labels : List Label} → LabelsRead labels → AllRead profileTests profileNext addLabel labelBytes noProfile labels
+labels-read (noLabel e) = subst (AllRead profileTests profileNext addLabel labelBytes noProfile) (sym e) noMore
+labels-read (oneMore before l more good e) =
+    subst (AllRead profileTests profileNext addLabel labelBytes noProfile) (sym e)
+    (read-more (labels-read more)
+    (subst (λ (s : Profile). Reads profileTests profileNext addLabel labelBytes s l) (sym (add-labels [] before)) (label-reads before l good)))
+
+add-keys : (labels : List Label) (s ks : List Key)
+    → addAll profileTests profileNext addKey keyBytes (record { labels = labels; keys = s }) ks ≡ record { labels = labels; keys = s ++ ks }
+add-keys labels s [] = ap (λ (l : List Key). record { labels = labels; keys = l }) (sym (append-nil s))
+add-keys labels s (k ∷ ks) = add-keys labels (s ++ (k ∷ [])) ks ∙ ap (λ (l : List Key). record { labels = labels; keys = l }) (append-snoc s k ks)
+
+keys-read : (labels : List Label) (done : List Key) {ks : List Key} → Each (GoodKey labels inProfile) ks → length (done ++ ks) ≤ 64
+    → AllRead profileTests profileNext addKey keyBytes (record { labels = labels; keys = done }) ks
+keys-read labels done end few = noMore
+keys-read labels done (also {x = k} {xs = ks} g gs) few =
+    oneRead (key-record-reads (record { labels = labels; keys = done }) k g (omega (arith, length-append done (k ∷ ks))))
+    (keys-read labels (done ++ (k ∷ [])) gs (subst (λ (l : List Key). length l ≤ 64) (sym (append-snoc done k ks)) few))
+
+-- A profile that can be written
+pub record ProfileFits (p : Profile) : Type 0 where
+  pub labels : LabelsRead (p .labels)
+  pub keys : Each (GoodKey (p .labels) inProfile) (p .keys)
+  pub few : length (p .keys) ≤ 64
+  pub size : length (profileBytes p) ≤ 16384
+
+pub profile-walked-written : (p : Profile) → ProfileFits p
+    → profileWalked (profileBytes p) ≡ record { number = 0; at = length (p .labels) + length (p .keys); state = p }
+unfolding profileWalked profileBytes
+profile-walked-written p f =
+    let K : List ℕ = flatten (map keyBytes (p .keys)) in
+    let all : Profile = addAll profileTests profileNext addKey keyBytes (labelled (p .labels)) (p .keys) in
+    let n : ℕ = 0 + length (p .labels) in
+    walk-written profileTests profileNext addLabel labelBytes 0 K (labels-read (f .labels))
+    ∙ (ap (λ (s : Profile). walk profileTests profileNext 0 n s K) (add-labels [] (p .labels))
+    ∙ (ap (λ (l : List ℕ). walk profileTests profileNext 0 n (labelled (p .labels)) l) (sym (append-nil K))
+    ∙ (walk-written profileTests profileNext addKey keyBytes n [] (keys-read (p .labels) [] (f .keys) (f .few))
+    ∙ (walk-end profileTests profileNext (n + length (p .keys)) all
+    ∙ finish (n + length (p .keys)) all (ap (λ (m : ℕ). m + length (p .keys)) (zero-add (length (p .labels)))) (add-keys (p .labels) [] (p .keys))))))
+  where
+    finish : (n : ℕ) (q : Profile) → n ≡ length (p .labels) + length (p .keys) → q ≡ p
+        → _≡_ {A = Walked Profile} (record { number = 0; at = n; state = q })
+        (record { number = 0; at = length (p .labels) + length (p .keys); state = p })
+    finish n q e r = λ i. record { number = 0; at = e i; state = r i }
+
+pub profile-written-sound : (p : Profile) → ProfileFits p → profileRefusal (profileBytes p) ≡ sound
+unfolding profileRefusal firstRefusal oversize
+profile-written-sound p f = rw (le-ltb 16384 (length (profileBytes p)) (f .size), profile-walked-written p f)
+
+pub profile-in-written : (p : Profile) → ProfileFits p → profileIn (profileBytes p) ≡ p
+unfolding profileIn
+profile-in-written p f = ap (λ (w : Walked Profile). w .state) (profile-walked-written p f)
