@@ -4,13 +4,14 @@
 //! differential answers SEED COUNT [LINE]   what the reference answers, as `replay` would
 //! differential compare SEED COUNT [LINE]   reads answers on standard input, names the first that
 //!                                          differ, counts, and fails if any does
-//! differential self SEED COUNT             what must hold within the reference itself
+//! differential self SEED COUNT [LINE]      what must hold within the reference itself
 //! differential lines                       the wrong lines that LINE can choose
 //!
 //! COUNT random cases follow the fixed ones. reference/stream.rs has the format.
 mod reference;
 
 use reference::cases::cases;
+use reference::derivations::derivation;
 use reference::generate::*;
 use reference::operations::*;
 use reference::random::Random;
@@ -121,6 +122,15 @@ fn consistent(random: &mut Random, asked: &Asked) -> Result<String, String> {
         }
     }
     let keeps_profile = asked.profile.keys.iter().all(|key| table.keeps(key));
+    let lines = derivation(random, asked, 6);
+    for (number, line) in lines.iter().enumerate() {
+        if !reference::rules::follows(line, &lines[..number], &asked.profile) {
+            break;
+        }
+        if keeps_profile && !table.keeps(&line.key) {
+            return Err(format!("a tree keeps the profile and breaks a line of rule {}", line.rule));
+        }
+    }
     match decide(&profile, &question, ANSWER_BYTES) {
         Ok(Decision::Implied(proof)) => {
             if check_proof(&profile, &question, &proof) != Ok(()) {
@@ -173,7 +183,10 @@ fn main() {
             std::io::stdin().read_to_end(&mut stream).unwrap();
             is_right = compare(&cases, &stream);
         }
-        "self" => is_right = consistency(seed, count),
+        "self" => {
+            choose();
+            is_right = consistency(seed, count);
+        }
         _ => {
             for (at, text) in reference::WRONG_LINES.iter().enumerate() {
                 println!("{} {}", at + 1, text);

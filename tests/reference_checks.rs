@@ -3,6 +3,8 @@
 //!
 //! rustc -O --edition 2021 -o target/tests/reference_checks tests/reference_checks.rs
 mod reference;
+#[path = "reference_checks/refusals.rs"]
+mod refusals;
 
 use reference::examples::*;
 use reference::operations::*;
@@ -12,7 +14,7 @@ use reference::trees::Tree;
 
 const ROOM: usize = ANSWER_BYTES;
 
-struct Tally {
+pub struct Tally {
     done: usize,
     failed: usize,
 }
@@ -55,6 +57,82 @@ fn examples(tally: &mut Tally) {
         tally.same("past the end", list(&profile, &tree, 1, ROOM), Ok(Vec::new()));
     }
     tally.same("rule 8 alone proves c", proof_of_c_needs_rule_8(), true);
+}
+
+/// Trees drawn by hand after 01, "The counterexample that is written".
+fn drawn_trees(tally: &mut Tally) {
+    let drawn: [(&[&str], &str, &str); 5] = [
+        // m: an attribute as target, marked.
+        (&[], "(port,(@id,{e}))", "nodes 6/0 - 203 -/1 0 202 1/2 0 3 -/3 2 202 3/4 2 6 4/5 2 6 4"),
+        // i: the any-path is one filler element.
+        (
+            &["(e,(port.frame,{@seq}))"],
+            "(e,(_*.frame,{@seq}))",
+            "nodes 12/0 - 203 -/1 0 202 1/2 0 201 -/3 2 202 3/4 2 4 -/5 4 202 5/6 4 7 6/7 0 201 -/8 7 202 8/9 7 4 -/10 9 202 10/11 9 7 6",
+        ),
+        // j: the end of the branch is an element, so its filler attribute has the twin's value.
+        (
+            &["(e,(frame,{stamp.#}))"],
+            "(e,(frame,{stamp}))",
+            "nodes 10/0 - 203 -/1 0 202 1/2 0 4 -/3 2 202 3/4 2 5 -/5 4 202 5/6 0 4 -/7 6 202 7/8 6 5 -/9 8 202 5",
+        ),
+        // d: two branches with a frame each.
+        (
+            &["(e,(port.frame,{stamp,@seq}))"],
+            "(e,(port,{frame.stamp,frame.@seq}))",
+            "nodes 20/0 - 203 -/1 0 202 1/2 0 3 -/3 2 202 3/4 2 4 -/5 4 202 5/6 4 5 -/7 6 202 7/8 2 4 -/9 8 202 9/10 8 7 10/\
+             11 0 3 -/12 11 202 12/13 11 4 -/14 13 202 14/15 13 5 -/16 15 202 7/17 11 4 -/18 17 202 18/19 17 7 10",
+        ),
+        // With the empty path t and everything below it is marked.
+        (
+            &[],
+            "(e,(port,{e,frame.@seq}))",
+            "nodes 12/0 - 203 -/1 0 202 1/2 0 3 -/3 2 202 3/4 2 4 -/5 4 202 5/6 4 7 6/7 0 3 -/8 7 202 3/9 7 4 -/10 9 202 5/11 9 7 6",
+        ),
+    ];
+    for (keys, asked, wanted) in drawn.iter() {
+        let profile = bench_profile(keys);
+        let wanted = wanted.replace('/', "\n") + "\n";
+        match decide(&profile, &question(asked), ROOM) {
+            Ok(Decision::NotImplied(tree)) => {
+                let listed = list(&profile, &tree, 0, ROOM).map(|bytes| String::from_utf8(bytes).unwrap());
+                tally.same(asked, listed, Ok(wanted));
+            }
+            other => tally.same(asked, format!("{:?}", other), "a tree".to_string()),
+        }
+    }
+    let paths = [2, 3, 4, 5].iter().map(|&last| [vec![2; 7], vec![last]].concat()).collect();
+    let largest = key_record(&Key { context: vec![2; 8], target: vec![2; 8], paths });
+    match decide(&bench_labels(), &largest, ROOM) {
+        Ok(Decision::NotImplied(tree)) => tally.same("the largest tree", tree.len(), 9 * 178),
+        other => tally.same("the largest tree", format!("{:?}", other), "a tree".to_string()),
+    }
+}
+
+/// Inclusion by search against inclusion by going through words, on all short paths; membership too.
+fn enumerated(tally: &mut Tally) {
+    let classes = read_profile(&bench_labels()).unwrap().classes;
+    let words = valid_words(&[2, 3, 6, TEXT, FILLER_ELEMENT, FILLER_ATTRIBUTE], &classes, 5);
+    let mut paths: Vec<Path> = vec![vec![]];
+    for length in 0..3 {
+        let shorter: Vec<Path> = paths.iter().filter(|path| path.len() == length).cloned().collect();
+        for path in shorter {
+            paths.extend([0, 2, 3, 6, TEXT].iter().map(|&symbol| [path.clone(), vec![symbol]].concat()));
+        }
+    }
+    paths.retain(|path| is_normal(path));
+    let mut differing = 0;
+    for p in paths.iter().filter(|p| is_valid(p, &classes)) {
+        let of_p: Vec<&Vec<u8>> = words.iter().filter(|word| is_word_by_definition(word, p)).collect();
+        for q in &paths {
+            let wanted = of_p.iter().all(|word| is_word_by_definition(word, q));
+            differing += (is_included(p, q, &classes) != wanted) as usize;
+        }
+    }
+    for path in &paths {
+        differing += words.iter().filter(|word| is_word(word, path) != is_word_by_definition(word, path)).count();
+    }
+    tally.same("short paths", differing, 0);
 }
 
 /// The proof that is written for c holds a line of rule 8.
@@ -144,6 +222,12 @@ fn limits(tally: &mut Tally) {
     let with = |key: Vec<u8>| [labels.clone(), key].concat();
     tally.same("8 symbols", rewrite(&with(simple_key(vec![2; 8])), ROOM), Ok(with(simple_key(vec![2; 8]))));
     tally.refused("9 symbols", rewrite(&with(simple_key(vec![2; 9])), ROOM), (4, 1, 2));
+    let long = |context: usize, path: usize| {
+        key_record(&Key { context: vec![2; context], target: vec![2], paths: vec![vec![2; path]] })
+    };
+    tally.same("all of 8", rewrite(&with(long(8, 8)), ROOM), Ok(with(long(8, 8))));
+    tally.refused("context of 9", rewrite(&with(long(9, 8)), ROOM), (4, 1, 2));
+    tally.refused("key path of 9", rewrite(&with(long(8, 9)), ROOM), (4, 1, 2));
     tally.refused("question of 9", decide(&labels, &simple_key(vec![2; 9]), ROOM), (4, 2, 0));
     let paths = |count: usize| (0..count).map(|k| vec![2; k]).collect::<Vec<Path>>();
     let keyed = |count: usize| key_record(&Key { context: vec![], target: vec![], paths: paths(count) });
@@ -190,6 +274,8 @@ fn big_inputs(tally: &mut Tally) {
     let everywhere = key_record(&Key { context: vec![0], target: vec![0], paths: vec![vec![]] });
     tally.same("4,096 nodes", keep(&labels, &everywhere, &chain(4_096)), Ok(true));
     tally.refused("4,097 nodes", keep(&labels, &everywhere, &chain(4_097)), (7, 3, 0));
+    tally.refused("tree of full size", keep(&labels, &everywhere, &vec![9; TREE_BYTES]), (2, 3, 0));
+    tally.refused("a byte more", keep(&labels, &everywhere, &vec![9; TREE_BYTES + 1]), (7, 3, 0));
     let listed = list(&labels, &chain(4_096), 4, ROOM);
     tally.same("the last line alone", listed, Ok(b"4095 4094 2 -\n".to_vec()));
     tally.same("past the end", list(&labels, &chain(4_096), 5, ROOM), Ok(Vec::new()));
@@ -233,6 +319,12 @@ fn line_sizes(tally: &mut Tally, labels: &[u8]) {
     let more = [labels, &label_record(&Label { number: 7, class: 1, name: b"c".to_vec() })].concat();
     let q0 = hex(Q0);
     tally.refused("context of 32", check_proof(&more, &q0, &wide(32, 1, 0)), (10, 3, 0));
+    let aimed = |target: usize| {
+        let key = Key { context: vec![], target: vec![2; target], paths: vec![vec![]] };
+        line_record(&Line { rule: 1, first: NONE, second: NONE, key })
+    };
+    tally.refused("target of 32", check_proof(&more, &q0, &aimed(32)), (9, 3, 0));
+    tally.refused("target of 33", check_proof(&more, &q0, &aimed(33)), (4, 3, 0));
     tally.refused("context of 33", check_proof(&more, &q0, &wide(33, 1, 0)), (4, 3, 0));
     tally.refused("key path of 16", check_proof(&more, &q0, &wide(0, 16, 0)), (10, 3, 0));
     tally.refused("key path of 17", check_proof(&more, &q0, &wide(0, 17, 0)), (4, 3, 0));
@@ -246,100 +338,6 @@ fn line_sizes(tally: &mut Tally, labels: &[u8]) {
     };
     tally.refused("64 key paths", check_proof(&more, &q0, &counted(64)), (10, 3, 0));
     tally.refused("65 key paths", check_proof(&more, &q0, &counted(65)), (5, 3, 0));
-}
-
-/// One fault of each number in one record, then in two, and which is given.
-fn order(tally: &mut Tally) {
-    let labels = all(&[LA, LB]);
-    let key = |context: &[u8], target: &[u8], paths: &[&[u8]]| {
-        let paths = paths.iter().map(|path| path.to_vec()).collect();
-        key_record(&Key { context: context.to_vec(), target: target.to_vec(), paths })
-    };
-    let of = |record: Vec<u8>| rewrite(&[labels.clone(), record].concat(), ROOM);
-    tally.refused("6", of(key(&[6], &[2], &[&[]])), (6, 1, 2));
-    tally.refused("6 by the empty path", of(key(&[], &[6], &[&[], &[2]])), (6, 1, 2));
-    tally.refused("6, any-path after an attribute", of(key(&[6], &[0], &[&[]])), (6, 1, 2));
-    tally.refused("5 before 6", of(key(&[6], &[2], &[&[2], &[]])), (5, 1, 2));
-    tally.refused("repeated", of(key(&[], &[2], &[&[2], &[2]])), (5, 1, 2));
-    tally.refused("4 before 5", of(key(&[9], &[2], &[&[2], &[]])), (4, 1, 2));
-    tally.refused("4 in a path beyond the number", of(key(&[], &[], &[&[], &[2], &[2, 2], &[2, 2, 2], &[9]])), (4, 1, 2));
-    tally.refused("0 in a key path", of(key(&[], &[], &[&[0]])), (4, 1, 2));
-    tally.refused("doubled 0", of(key(&[0, 0], &[], &[&[]])), (4, 1, 2));
-    tally.same("0 then 0 over the joint", of(key(&[0], &[0], &[&[]])).is_ok(), true);
-    let mut long = key(&[9], &[2], &[&[2], &[]]);
-    long[0] += 1;
-    long.push(0);
-    tally.refused("1 before 4", of(long), (1, 1, 2));
-    tally.refused("label after a key", of([key(&[], &[], &[&[]]), hex(LA)].concat()), (2, 1, 3));
-    tally.refused("2 before 3", of([key(&[], &[], &[&[]]), hex("06 00 01 00 ff 09")].concat()), (2, 1, 3));
-    tally.refused("1 before 2", of([key(&[], &[], &[&[]]), hex("05 00 01 00 ff")].concat()), (1, 1, 3));
-    tally.refused("not ascending", of(hex("07 00 01 00 06 01 63")), (3, 1, 2));
-    tally.refused("name used before", of(hex("07 00 01 00 07 01 61")), (3, 1, 2));
-    tally.refused("class", of(hex("07 00 01 00 07 03 63")), (3, 1, 2));
-    tally.refused("length under 4", of(hex("03 00 01 00 07 03 63")), (1, 1, 2));
-    tally.refused("past the end", of(hex("08 00 01 00 07 01 63")), (1, 1, 2));
-    tally.refused("3 bytes", of(hex("07 00 01")), (1, 1, 2));
-    inputs_in_order(tally, &labels);
-    nodes(tally, &labels);
-    proof_lines(tally, &labels);
-}
-
-fn inputs_in_order(tally: &mut Tally, labels: &[u8]) {
-    let bad = [9u8];
-    let q0 = hex(Q0);
-    tally.refused("profile first", keep(&bad, &bad, &bad), (1, 1, 0));
-    tally.refused("then question", keep(labels, &bad, &bad), (1, 2, 0));
-    tally.refused("then tree", keep(labels, &q0, &bad), (1, 3, 0));
-    tally.refused("then proof", check_proof(labels, &q0, &bad), (1, 3, 0));
-    tally.refused("profile, tree", list(&bad, &bad, 0, ROOM), (1, 1, 0));
-    tally.refused("tree of a listing", list(labels, &bad, 0, ROOM), (1, 3, 0));
-    tally.refused("question is a label", decide(labels, &hex(LA), ROOM), (2, 2, 0));
-    tally.refused("question's faults before record 1", decide(labels, &[simple_key(vec![9]), bad.to_vec()].concat(), ROOM), (4, 2, 0));
-    tally.refused("12 before 13", {
-        let profile = [labels, &simple_key(vec![0]), &simple_key(vec![2])].concat();
-        let twins = all(&[ROOT_NODE, "09 00 03 00 00 00 02 00 00", "09 00 03 00 00 00 02 00 00"]);
-        check_counterexample(&profile, &q0, &twins)
-    }, (12, 1, 0));
-    tally.refused("lowest key number", {
-        let profile = [labels, &q0, &simple_key(vec![6]), &simple_key(vec![2]), &simple_key(vec![0])].concat();
-        let twins = all(&[ROOT_NODE, "09 00 03 00 00 00 02 00 00", "09 00 03 00 00 00 02 00 00"]);
-        check_counterexample(&profile, &simple_key(vec![2]), &twins)
-    }, (12, 1, 2));
-}
-
-fn nodes(tally: &mut Tally, labels: &[u8]) {
-    let q0 = hex(Q0);
-    let of = |text: &str| keep(labels, &q0, &all(&[ROOT_NODE, text]));
-    tally.refused("root again", of("09 00 03 00 00 00 cb 00 00"), (8, 3, 1));
-    tally.refused("undeclared", of("09 00 03 00 00 00 07 00 00"), (8, 3, 1));
-    tally.refused("label 0", of("09 00 03 00 00 00 00 00 00"), (8, 3, 1));
-    tally.refused("parent is itself", of("09 00 03 00 01 00 02 00 00"), (8, 3, 1));
-    tally.refused("parent is none", of("09 00 03 00 ff ff 02 00 00"), (8, 3, 1));
-    tally.refused("element with a value", of("09 00 03 00 00 00 02 01 00"), (8, 3, 1));
-    tally.refused("filler with a value", of("09 00 03 00 00 00 c9 01 00"), (8, 3, 1));
-    tally.refused("below an attribute", of("09 00 03 00 00 00 06 00 00 09 00 03 00 01 00 02 00 00"), (8, 3, 2));
-    tally.refused("below text", of("09 00 03 00 00 00 01 00 00 09 00 03 00 01 00 06 00 00"), (8, 3, 2));
-    tally.refused("below a filler attribute", of("09 00 03 00 00 00 ca 00 00 09 00 03 00 01 00 06 00 00"), (8, 3, 2));
-    tally.refused("key in a tree", of(Q0), (2, 3, 1));
-    tally.refused("body of 6", of("0a 00 03 00 00 00 02 00 00 00"), (1, 3, 1));
-    tally.same("fillers", of("09 00 03 00 00 00 c9 00 00 09 00 03 00 01 00 ca ff ff"), Ok(true));
-    let first = |text: &str| keep(labels, &q0, &hex(text));
-    tally.refused("first is no root", first("09 00 03 00 ff ff 02 00 00"), (8, 3, 0));
-    tally.refused("root's parent", first("09 00 03 00 00 00 cb 00 00"), (8, 3, 0));
-    tally.refused("root's value", first("09 00 03 00 ff ff cb 01 00"), (8, 3, 0));
-}
-
-fn proof_lines(tally: &mut Tally, labels: &[u8]) {
-    let q0 = hex(Q0);
-    let of = |text: &str| check_proof(labels, &q0, &hex(text));
-    tally.refused("9 before the next record", of("0d 00 04 00 02 00 00 ff ff 00 00 01 00 09"), (9, 3, 0));
-    tally.refused("4 before 9", of("0e 00 04 00 02 00 00 ff ff 01 63 00 01 00"), (4, 3, 0));
-    tally.refused("5 before 9", of("0c 00 04 00 02 00 00 ff ff 00 00 00"), (5, 3, 0));
-    tally.refused("6 before 9", of("0f 00 04 00 02 00 00 ff ff 02 06 02 00 01 00"), (6, 3, 0));
-    tally.refused("line without premises", of("08 00 04 00 02 00 00 ff"), (1, 3, 0));
-    tally.refused("node in a proof", of(ROOT_NODE), (2, 3, 0));
-    tally.refused("last is not the question", of("0e 00 04 00 01 ff ff ff ff 01 02 00 01 00"), (10, 3, 0));
-    tally.refused("the record 10 gives", of("0d 00 04 00 01 ff ff ff ff 00 00 01 00 0e 00 04 00 01 ff ff ff ff 01 02 00 01 00"), (10, 3, 1));
 }
 
 /// Value equality and key keeping by 01's sentences on a small tree.
@@ -370,11 +368,13 @@ fn equality(tally: &mut Tally) {
 fn main() {
     let mut tally = Tally { done: 0, failed: 0 };
     examples(&mut tally);
+    drawn_trees(&mut tally);
+    enumerated(&mut tally);
     readings(&mut tally);
     cuts(&mut tally);
     limits(&mut tally);
     big_inputs(&mut tally);
-    order(&mut tally);
+    refusals::order(&mut tally);
     equality(&mut tally);
     println!("reference checks: {} done, {} failed", tally.done, tally.failed);
     if tally.failed > 0 {

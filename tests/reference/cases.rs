@@ -1,5 +1,6 @@
 //! The cases of a run: fixed ones at each limit, then random ones, whole and damaged.
 use super::damage::{damaged, spoiled};
+use super::derivations::derivation;
 use super::examples::{bench_profile, question, ROWS};
 use super::generate::*;
 use super::paths::*;

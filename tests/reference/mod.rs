@@ -11,6 +11,8 @@
 pub mod cases;
 pub mod damage;
 pub mod decide;
+pub mod derivations;
+pub mod encode;
 pub mod examples;
 pub mod generate;
 pub mod listing;

@@ -121,12 +121,16 @@ impl<'a> Tree<'a> {
             }
             worths_of.insert(a, worths);
         }
-        for alike in by_first.values() {
+        let mut contexts_of: HashMap<usize, Vec<usize>> = HashMap::new();
+        for alike in by_first.values().filter(|alike| alike.len() > 1) {
+            for &a in alike {
+                contexts_of.entry(a).or_insert_with(|| self.contexts_of(a, &contexts, &key.target));
+            }
             for (i, &a) in alike.iter().enumerate() {
                 for &b in &alike[..i] {
                     let (of_a, of_b) = (&worths_of[&a], &worths_of[&b]);
                     let agree = (1..key.paths.len()).all(|p| meet(&of_a[p], &of_b[p])) || wrong(4);
-                    if agree && self.has_common_context(a, b, &contexts, &key.target) {
+                    if agree && meet(&contexts_of[&a], &contexts_of[&b]) {
                         return false;
                     }
                 }
@@ -160,13 +164,8 @@ impl<'a> Tree<'a> {
         worths
     }
 
-    fn has_common_context(&self, a: usize, b: usize, contexts: &[bool], target: &[u8]) -> bool {
-        let of_b = self.contexts_of(b, contexts, target);
-        self.contexts_of(a, contexts, target).iter().any(|q| of_b.contains(q))
-    }
-
     /// The contexts from which the target path reaches a: ancestors or a itself. The path is read
-    /// backwards on the way up.
+    /// backwards on the way up. They are given from the top, so their numbers ascend.
     fn contexts_of(&self, a: usize, contexts: &[bool], target: &[u8]) -> Vec<usize> {
         let backwards: Vec<u8> = target.iter().rev().copied().collect();
         let mut found = Vec::new();
@@ -179,6 +178,7 @@ impl<'a> Tree<'a> {
             places = places_after(&backwards, places, self.nodes[node].label);
             at = if places == 0 { None } else { self.parent(node) };
         }
+        found.reverse();
         found
     }
 }

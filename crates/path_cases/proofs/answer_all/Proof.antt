@@ -1,3 +1,4 @@
+-- `path_cases::answer_all` is safe and ends: the turns that are left fall, and the space keeps its length.
 use mathlib.Core.Path.{_≡_}
 use lib.ListN.{length}
 use native.Mathlib.Omega.{arith}

@@ -1,3 +1,4 @@
+-- `path_cases::answer_parts` is safe: both parts lie within the space.
 use mathlib.Core.Path.{sym}
 use lib.Seq.{length-take-le}
 use borrow.Author.Needs.{needs}

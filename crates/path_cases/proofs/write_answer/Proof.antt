@@ -1,3 +1,4 @@
+-- `path_cases::write_answer` is safe: the first part ends within the case.
 use mathlib.Core.Path.{sym}
 use lib.Seq.{length-take-le}
 use borrow.Author.Needs.{needs}
