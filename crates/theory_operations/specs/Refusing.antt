@@ -8,7 +8,8 @@ use lib.Dec.{eqb}
 use borrow.Author.Tests.{le-ltb, lt-ltb, eq-eqb, ne-eqb}
 use lib.ListN.{length}
 use Rattle.meaning.specs.Limits.{answerBytes}
-use Rattle.meaning.specs.Refusals.{Refusal, sound, firstRefusal, oversize, answerRefusal}
+use Rattle.meaning.specs.Paths.{Label}
+use Rattle.meaning.specs.Refusals.{Refusal, sound, firstRefusal, oversize, answerRefusal, profileRefusal, questionRefusal, treeRefusal}
 use Rattle.meaning.specs.Operations.{Answer, Unless, choose, refusedBy}
 
 -- where no refusal stands, the answer is what Q says of it
@@ -73,3 +74,35 @@ answer-small buffer h = rw (lt-ltb (length buffer) answerBytes h) refl
 pub answer-large : (buffer : List ℕ) → 65536 ≤ length buffer → answerRefusal buffer .number ≡ 0
 unfolding answerRefusal
 answer-large buffer h = rw (le-ltb (length buffer) answerBytes h) refl
+
+-- a refusal that refuses nothing names nothing
+unfoldable pub Settled : Refusal → Type 0
+Settled r = r .number ≡ 0 → r ≡ sound
+
+pub first-settled : (rs : List Refusal) → Settled (firstRefusal rs)
+unfolding Settled
+first-settled rs = first-sound rs
+
+pub profile-settled : (bytes : List ℕ) → Settled (profileRefusal bytes)
+unfolding profileRefusal
+profile-settled bytes = first-settled _
+
+pub question-settled : (labels : List Label) (bytes : List ℕ) → Settled (questionRefusal labels bytes)
+unfolding questionRefusal
+question-settled labels bytes = first-settled _
+
+pub tree-settled : (labels : List Label) (bytes : List ℕ) → Settled (treeRefusal labels bytes)
+unfolding treeRefusal
+tree-settled labels bytes = first-settled _
+
+-- a refusal that names its input refuses, and is the first
+pub named-refuses : (r s : Refusal) → Settled s → r ≡ s → 0 < r .input → s .number ≡ 0 → ⊥
+unfolding Settled
+named-refuses r s settled e named z = let i : r .input ≡ 0 = ap (λ (x : Refusal). x .input) (e ∙ settled z) in omega arith
+
+pub first-named : (r s : Refusal) (rs : List Refusal) → Settled s → r ≡ s → 0 < r .input → firstRefusal (s ∷ rs) ≡ r
+first-named r s rs settled e named = first-stops s rs (named-refuses r s settled e named) ∙ sym e
+
+-- a sound input is passed over
+pub sound-number : {s : Refusal} → sound ≡ s → s .number ≡ 0
+sound-number e = ap (λ (x : Refusal). x .number) (sym e)
