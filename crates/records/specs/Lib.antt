@@ -3,3 +3,6 @@ pub mod Labels
 pub mod Keys
 pub mod Agree
 pub mod KeyWalks
+pub mod LabelWalks
+pub mod ProfileWalks
+pub mod QuestionWalks
