@@ -1,0 +1,8 @@
+-- ARGUMENT 2: trees as tables, reach, and the laws of value equality.
+pub mod Below
+pub mod Children
+pub mod Laws
+pub mod Climb
+pub mod Reach
+pub mod Sameness
+pub mod Breaking
