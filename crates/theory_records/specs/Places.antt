@@ -54,20 +54,20 @@ lines-stand-more labels bytes n lines l g h e =
       counted = ap suc (g .counted) ∙ sym more;
       here = ap (λ (r : List ℕ). drop (recordLength r) r) (g .here) ∙ sym (records-next n bytes);
       each = λ i k.
-        ⊎-elim
-        (λ (q : i ≡ length lines).
-        let there : l ≡ recordsFrom i bytes = g .here ∙ ap (λ (j : ℕ). recordsFrom j bytes) (g .counted ∙ sym q) in
-        record {
-          is =
-            ap (getElem? (lines ++ (x ∷ []))) q ∙ (at-seam lines x [] ∙ ap (λ (r : List ℕ). some (readLine (recordBody r))) there);
-          isWhole = subst Whole there (a .isWhole);
-          kind = subst (λ (r : List ℕ). recordKind r ≡ 4) there (a .kind);
-          good = subst (λ (r : List ℕ). GoodKey labels inProof (readLine (recordBody r) .key)) there (a .good);
-        })
-        (λ (q : i < length lines).
-        let old = g .each i q in
-        record { is = at-left lines (x ∷ []) i q ∙ old .is; isWhole = old .isWhole; kind = old .kind; good = old .good })
-        (eq-or-lt-of-le (at-most i (length (lines ++ (x ∷ []))) (length lines) more k));
+          ⊎-elim
+          (λ (q : i ≡ length lines).
+          let there : l ≡ recordsFrom i bytes = g .here ∙ ap (λ (j : ℕ). recordsFrom j bytes) (g .counted ∙ sym q) in
+          record {
+            is =
+                ap (getElem? (lines ++ (x ∷ []))) q ∙ (at-seam lines x [] ∙ ap (λ (r : List ℕ). some (readLine (recordBody r))) there);
+            isWhole = subst Whole there (a .isWhole);
+            kind = subst (λ (r : List ℕ). recordKind r ≡ 4) there (a .kind);
+            good = subst (λ (r : List ℕ). GoodKey labels inProof (readLine (recordBody r) .key)) there (a .good);
+          })
+          (λ (q : i < length lines).
+          let old = g .each i q in
+          record { is = at-left lines (x ∷ []) i q ∙ old .is; isWhole = old .isWhole; kind = old .kind; good = old .good })
+          (eq-or-lt-of-le (at-most i (length (lines ++ (x ∷ []))) (length lines) more k));
     }
   where
     at-most : (i m k : ℕ) → m ≡ suc k → i < m → i ≤ k
@@ -88,5 +88,77 @@ line-place labels bytes i h =
     []
     bytes
     (lines-stand-none labels bytes)
+    .held
+    .each i h
+
+-- Key i of the keys read, behind the labels
+pub record KeyPlace (labels : List Label) (bytes : List ℕ) (keys : List Key) (i : ℕ) : Type 0 where
+  pub is : getElem? keys i ≡ some (keyIn (recordBody (recordsFrom (length labels + i) bytes)))
+  pub isWhole : Whole (recordsFrom (length labels + i) bytes)
+  pub kind : recordKind (recordsFrom (length labels + i) bytes) ≡ 2
+  pub good : GoodKey labels inProfile (keyIn (recordBody (recordsFrom (length labels + i) bytes)))
+
+pub record KeysStand (bytes : List ℕ) (n : ℕ) (p : Profile) (rest : List ℕ) : Type 0 where
+  pub counted : n ≡ length (p .labels) + length (p .keys)
+  pub here : rest ≡ recordsFrom n bytes
+  pub each : (i : ℕ) → i < length (p .keys) → KeyPlace (p .labels) bytes (p .keys) i
+
+no-key : (labels : List Label) (bytes : List ℕ) (keys : List Key) → keys ≡ [] → (i : ℕ) → i < length keys → KeyPlace labels bytes keys i
+no-key labels bytes keys e i h = absurd (omega (arith, ap length e))
+
+keys-stand-more : (bytes : List ℕ) (n : ℕ) (p : Profile) (l : List ℕ) → KeysStand bytes n p l → 0 < length l → firstOf (profileTests p l) ≡ 0
+    → KeysStand bytes (suc n) (profileNext p l) (drop (recordLength l) l)
+keys-stand-more bytes n p l g h e =
+    ⊎-elim (λ (a : LabelAccepted p l). rw (next-label p l (a .kind)) (one-label a))
+    (λ (a : KeyRecordAccepted p l). rw (next-key p l (a .kind)) (one-key a))
+    (profile-accepted p l e)
+  where
+    onward : drop (recordLength l) l ≡ recordsFrom (suc n) bytes
+    onward = ap (λ (r : List ℕ). drop (recordLength r) r) (g .here) ∙ sym (records-next n bytes)
+
+    one-label : LabelAccepted p l
+        → KeysStand bytes (suc n) (record { labels = p .labels ++ (readLabel (recordBody l) ∷ []); keys = p .keys }) (drop (recordLength l) l)
+    one-label a =
+        record {
+          counted = omega (arith, g .counted, length-more (p .labels) (readLabel (recordBody l)));
+          here = onward;
+          each = no-key (p .labels ++ (readLabel (recordBody l) ∷ [])) bytes (p .keys) (a .beforeKeys);
+        }
+
+    x : Key
+    x = keyIn (recordBody l)
+
+    at-most : (i m k : ℕ) → m ≡ suc k → i < m → i ≤ k
+    at-most i m k q h = omega arith
+
+    one-key : KeyRecordAccepted p l → KeysStand bytes (suc n) (record { labels = p .labels; keys = p .keys ++ (x ∷ []) }) (drop (recordLength l) l)
+    one-key a =
+        record {
+          counted = omega (arith, g .counted, length-more (p .keys) x);
+          here = onward;
+          each = λ i k.
+              ⊎-elim
+              (λ (q : i ≡ length (p .keys)).
+              let there : l ≡ recordsFrom (length (p .labels) + i) bytes =
+              g .here ∙ ap (λ (j : ℕ). recordsFrom j bytes) (g .counted ∙ ap (λ (j : ℕ). length (p .labels) + j) (sym q)) in
+              record {
+                is =
+                    ap (getElem? (p .keys ++ (x ∷ []))) q ∙ (at-seam (p .keys) x [] ∙ ap (λ (r : List ℕ). some (keyIn (recordBody r))) there);
+                isWhole = subst Whole there (a .isWhole);
+                kind = subst (λ (r : List ℕ). recordKind r ≡ 2) there (a .kind);
+                good = subst (λ (r : List ℕ). GoodKey (p .labels) inProfile (keyIn (recordBody r))) there (a .good);
+              })
+              (λ (q : i < length (p .keys)).
+              let old = g .each i q in
+              record { is = at-left (p .keys) (x ∷ []) i q ∙ old .is; isWhole = old .isWhole; kind = old .kind; good = old .good })
+              (eq-or-lt-of-le (at-most i (length (p .keys ++ (x ∷ []))) (length (p .keys)) (length-more (p .keys) x) k));
+        }
+
+-- of the labels and keys read, also of a profile that is refused further on
+pub key-place : (bytes : List ℕ) (i : ℕ) → i < length (keysIn bytes) → KeyPlace (labelsIn bytes) bytes (keysIn bytes) i
+unfolding labelsIn keysIn profileIn profileWalked
+key-place bytes i h =
+    walk-keeps profileTests profileNext (KeysStand bytes) profile-long (keys-stand-more bytes) 0 noProfile bytes
+    (record { counted = refl; here = unfold recordsFrom in refl; each = λ i h. absurd (omega arith) })
     .held
     .each i h
