@@ -1,0 +1,3 @@
+-- Climbing from a node, and the runs of labels passed.
+pub mod Climbing
+pub mod Reached
