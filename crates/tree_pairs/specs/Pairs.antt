@@ -112,3 +112,11 @@ module _ (κ : ℕ → Class) (t : Table) (a b : ℕ) (paths : List (List ℕ)) 
   pub agree-fails : (i : ℕ) (r : Bool) → i < length paths → Decides (EqualPair κ t a b (getD paths i [])) r → r ≡ false
       → Decides (Each (EqualPair κ t a b) paths) false
   agree-fails i r h d e = record { yes = λ f. absurd (false≢true f); no = λ f w. d .no e (each-one w i h) }
+
+-- what `agree` says of key path number i
+pub pair-at : (κ : ℕ → Class) (t : Table) (class : List ℕ) → Classed κ t class → (a b : ℕ) → a < t .size → b < t .size → (paths : List (List ℕ))
+    → T (every simple paths) → (i : ℕ) → i < length paths → (P : List ℕ) → P ≡ getD paths i [] → (r : Bool)
+    → Decides (Hit t (Mate t class b P) a P) r → Decides (EqualPair κ t a b (getD paths i [])) r
+pair-at κ t class classed a b ia ib paths s i h P e r d =
+    subst (λ (Q : List ℕ). Decides (EqualPair κ t a b Q) r) e
+    (pair-decides κ t class classed a b ia ib P r (subst (λ (Q : List ℕ). T (simple Q)) (sym e) (simple-at paths s i h)) d)
