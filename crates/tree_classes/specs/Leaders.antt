@@ -11,7 +11,6 @@ use Rattle.meaning.specs.Paths.{Class}
 use Rattle.meaning.specs.Trees.{Table, Equal}
 use Rattle.theory_trees.specs.Below.{ParentsSmaller}
 use Rattle.theory_trees.specs.Laws.{equal-symmetric, equal-transitive, equal-reflexive}
-use Rattle.tree_nodes.specs.FileTable.{fileTable, TreeBytes}
 use Rattle.tree_nodes.specs.Decides.{Decides}
 use Rattle.tree_equal.specs.Classed.{Classed}
 
@@ -163,8 +162,3 @@ classed-all κ t class n h c =
           (subst (λ (k : ℕ). Equal κ t k y) (sym e) (c .equal y (omega arith)));
       equal = λ x y i j q. c .one x y (omega arith) (omega arith) q;
     }
-
--- parents have smaller numbers in an accepted tree
-pub parents-smaller : {classes bytes : List ℕ} → TreeBytes classes bytes → ParentsSmaller (fileTable bytes)
-unfolding ParentsSmaller
-parents-smaller t = t .above

@@ -9,11 +9,6 @@ use lib.Seq.{drop-cons, drop-set-lt, getD-set-same}
 use Rattle.meaning.specs.Trees.{Table, Child, Down, here, step}
 use Rattle.theory_trees.specs.Below.{ParentsSmaller, down-greater, down-from, down-append}
 use Rattle.theory_trees.specs.Climb.{Last, last-step}
-use Rattle.tree_nodes.specs.FileTable.{fileTable, TreeBytes}
-
-pub parents-smaller : {classes bytes : List ℕ} → TreeBytes classes bytes → ParentsSmaller (fileTable bytes)
-unfolding ParentsSmaller
-parents-smaller t = t .above
 
 -- v is n or lies above it
 pub record Above (t : Table) (v n : ℕ) : Type 0 where

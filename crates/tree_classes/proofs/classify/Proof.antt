@@ -3,7 +3,8 @@ use mathlib.Core.Path.{_≡_}
 use native.Mathlib.Omega.{arith}
 use lib.ListN.{length}
 use Rattle.tree_nodes.specs.FileTable.{fileTable, classBy}
-use Rattle.tree_classes.specs.Leaders.{ClassedTo, classed-none, classed-more, classed-all, parents-smaller}
+use Rattle.tree_classes.specs.Leaders.{ClassedTo, classed-none, classed-more, classed-all}
+use Rattle.tree_nodes.specs.Ready.{parents-smaller}
 use Rattle.tree_classes.proofs.classify.Statement.{statement}
 use Rattle.tree_classes.proofs.classify.Tie as tie
 use Rattle.tree_classes.proofs.classify.Reads as reads

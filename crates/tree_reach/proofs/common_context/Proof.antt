@@ -5,7 +5,7 @@ use borrow.Author.Needs.{needs}
 use borrow.Author.Tests.{not-true, not-false}
 use lib.ListN.{length, drop, length-set}
 use Rattle.tree_nodes.specs.FileTable.{fileTable}
-use Rattle.tree_reach.specs.Climbing.{parents-smaller}
+use Rattle.tree_nodes.specs.Ready.{parents-smaller}
 use Rattle.tree_reach.specs.Contexts.{Searching, searching-start, searching-step, met-here, met-never, meets-part}
 use Rattle.tree_reach.proofs.common_context.Statement.{statement}
 use Rattle.tree_reach.proofs.common_context.Tie as tie

@@ -6,7 +6,7 @@ use native.Mathlib.Omega.{arith}
 use borrow.Author.Needs.{needs}
 use lib.ListN.{length, drop, length-set}
 use Rattle.tree_nodes.specs.FileTable.{fileTable}
-use Rattle.tree_reach.specs.Climbing.{parents-smaller}
+use Rattle.tree_nodes.specs.Ready.{parents-smaller}
 use Rattle.tree_reach.specs.Reached.{Climbing, climbing-start, climbing-step, reached-met, reached-never}
 use Rattle.tree_reach.proofs.reached.Statement.{statement}
 use Rattle.tree_reach.proofs.reached.Tie as tie
