@@ -12,7 +12,7 @@ use Rattle.meaning.specs.Trees.{Table, Child, Equal, EqualLists, ended, paired}
 use Rattle.tree_nodes.specs.Links.{LeastChild, Firsts, Nexts}
 use Rattle.tree_nodes.specs.Rest.{rest, IsKind, rest-yes, linked-rest, listOf, list-kept, ofKind, kept, kept-yes, kind-yes}
 use Rattle.tree_nodes.specs.Seek.{Passed, Sought, left, left-falls}
-use Rattle.tree_equal.specs.Decides.{Decides}
+use Rattle.tree_nodes.specs.Decides.{Decides}
 
 -- Link i is 0 or a child of v of the kind
 pub record AtKind (κ : ℕ → Class) (t : Table) (attribute : Bool) (v i : ℕ) : Type 0 where

@@ -12,7 +12,7 @@ ghost use Rattle.meaning.specs.Trees.{Equal, EqualLists};
 ghost use Rattle.tree_nodes.specs.FileTable.{fileTable, classBy};
 ghost use Rattle.tree_nodes.specs.Ready.{Ready};
 ghost use Rattle.tree_nodes.specs.Rest.{listOf};
-ghost use Rattle.tree_equal.specs.Decides.{Decides};
+ghost use Rattle.tree_nodes.specs.Decides.{Decides};
 
 // "Two nodes are value-equal if the labels are equal and, for attribute or text, the values are equal; for elements, .."
 pub fn node_eq(

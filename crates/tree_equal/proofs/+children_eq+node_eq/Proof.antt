@@ -2,7 +2,7 @@ use borrow.Author.Tests.{not-true, not-false}
 use Rattle.tree_equal.specs.Lists.{kind-greater}
 use Rattle.tree_nodes.specs.FileTable.{fileTable, classBy}
 use Rattle.tree_nodes.specs.Seek.{left}
-use Rattle.tree_equal.specs.Decides.{labels-differ, leaf-decides, attributes-differ, others-decide}
+use Rattle.tree_equal.specs.Nodes.{labels-differ, leaf-decides, attributes-differ, others-decide}
 use Rattle.tree_equal.specs.Lists.{Compared, compared-start, compared-more, compared-falls, least-inside, list-longer, lists-differ, lists-end}
 use native.Mathlib.Omega.{arith}
 use borrow.Author.Needs.{needs}

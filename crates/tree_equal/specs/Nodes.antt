@@ -9,11 +9,7 @@ use Rattle.meaning.specs.Paths.{Class, isElement}
 use Rattle.meaning.specs.Trees.{Table, Equal, leaves, elements, EqualLists, ended, paired}
 use Rattle.theory_trees.specs.Laws.{equal-label, equal-value}
 use Rattle.tree_nodes.specs.Rest.{listOf}
-
--- The answer is true exactly when the statement holds
-pub record Decides (P : Type 0) (r : Bool) : Type 0 where
-  pub yes : r ≡ true → P
-  pub no : r ≡ false → P → ⊥
+use Rattle.tree_nodes.specs.Decides.{Decides}
 
 module _ (κ : ℕ → Class) (t : Table) (x y : ℕ) where
   pub labels-differ : (l m : ℕ) → l ≡ t .label x → m ≡ t .label y → (l ≡ m → ⊥) → Decides (Equal κ t x y) false
