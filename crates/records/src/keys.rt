@@ -47,7 +47,13 @@ pub fn judge_key(rest: &[u8], keys: usize, classes: &[u8; 256]) -> usize
         return NOT_ALLOWED;
     }
     let end = word(rest, 0);
-    key_refusal(&rest[HEAD_BYTES..end], classes, SYMBOLS, PATH_SYMBOLS, KEY_PATHS)
+    key_refusal(
+        &rest[HEAD_BYTES..end],
+        classes,
+        SYMBOLS,
+        PATH_SYMBOLS,
+        KEY_PATHS,
+    )
 }
 
 // The number that the proof line at the front gives, after so many lines: 7, 1, 2, then 4, 5, 6. (Whether it follows, 9, is not asked here.)
@@ -64,5 +70,11 @@ pub fn judge_line(rest: &[u8], classes: &[u8; 256], lines: usize) -> usize
         return NOT_ALLOWED;
     }
     let end = word(rest, 0);
-    key_refusal(&rest[KEY_IN_LINE..end], classes, LINE_SYMBOLS, LINE_PATH_SYMBOLS, LINE_KEY_PATHS)
+    key_refusal(
+        &rest[KEY_IN_LINE..end],
+        classes,
+        LINE_SYMBOLS,
+        LINE_PATH_SYMBOLS,
+        LINE_KEY_PATHS,
+    )
 }

@@ -1,0 +1,3 @@
+// Whether a proof line follows from the profile and the earlier lines, and whether a whole proof is accepted (document 01, "Rules of
+// inference"), over the bytes where they stand: no part of a proof is copied.
+pub mod follow;
