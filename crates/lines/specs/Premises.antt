@@ -336,3 +336,6 @@ body-key {body} h e = subst LineKey (sym (e ∙ part-to-end body 5)) (h .key)
 
 pub body-shape : {body : List ℕ} → LineBody body → {k : List ℕ} → k ≡ take (length body - 5) (drop 5 body) → isSome (readKey k) ≡ true
 body-shape h e = body-key h e .shape
+
+pub earlier-last : {lines : ℕ} {proof : List ℕ} → Earlier lines proof → (lines ≡ 0 → ⊥) → LineRecord (recordsFrom (lines - 1) proof)
+earlier-last {lines} e ne = e .each (lines - 1) (omega arith)

@@ -42,35 +42,35 @@ subnodes-epsilon-requires c κs = search needs
 
 -- src/follow.rt:83:1
 returns : tie.Need-returns
-returns c = search (rule-two, rule-three, rule-four, rule-five, rule-six, rule-seven, rule-eight, rule-none)
+returns c = search (rule-two)
 
 -- src/follow.rt:83:1
 returns-2 : tie.Need-returns-2
-returns-2 c = search (rule-two, rule-three, rule-four, rule-five, rule-six, rule-seven, rule-eight, rule-none)
+returns-2 c = search (rule-three)
 
 -- src/follow.rt:83:1
 returns-3 : tie.Need-returns-3
-returns-3 c = search (rule-two, rule-three, rule-four, rule-five, rule-six, rule-seven, rule-eight, rule-none)
+returns-3 c = search (rule-four)
 
 -- src/follow.rt:83:1
 returns-4 : tie.Need-returns-4
-returns-4 c = search (rule-two, rule-three, rule-four, rule-five, rule-six, rule-seven, rule-eight, rule-none)
+returns-4 c = search (rule-five)
 
 -- src/follow.rt:83:1
 returns-5 : tie.Need-returns-5
-returns-5 c = search (rule-two, rule-three, rule-four, rule-five, rule-six, rule-seven, rule-eight, rule-none)
+returns-5 c = search (rule-six)
 
 -- src/follow.rt:83:1
 returns-6 : tie.Need-returns-6
-returns-6 c = search (rule-two, rule-three, rule-four, rule-five, rule-six, rule-seven, rule-eight, rule-none)
+returns-6 c = search (rule-seven)
 
 -- src/follow.rt:83:1
 returns-7 : tie.Need-returns-7
-returns-7 c = search (rule-two, rule-three, rule-four, rule-five, rule-six, rule-seven, rule-eight, rule-none)
+returns-7 c = search (rule-eight)
 
 -- src/follow.rt:83:1
 returns-8 : tie.Need-returns-8
-returns-8 c = search (rule-two, rule-three, rule-four, rule-five, rule-six, rule-seven, rule-eight, rule-none)
+returns-8 c = search (rule-none)
 
 pub by-rule-spec : {M : Type 1} → statement M
 by-rule-spec =
