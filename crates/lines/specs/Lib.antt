@@ -1,0 +1,4 @@
+pub mod Premises
+pub mod ProfileKeys
+pub mod Following
+pub mod Checking
