@@ -227,3 +227,11 @@ module _ {lines body path : List ℕ} {j : ℕ} (w : WritesLine lines body path 
         pub write-all : v ≡ length c + length t + length path → {four : List ℕ} → Copied three (25 * j + 1 + (length c + length t)) path four
             → Copied lines (25 * j) (pathBytes (chainOf (keyIn body) ++ path)) four
         write-all n z = line-written (keyIn body) p q n begun x y z
+
+-- what a reader of the lines has
+module _ {asked : Key} {lines : List ℕ} (d : Drawn asked lines) {j : ℕ} (h : j < length (asked .paths)) where
+  pub drawn-has : HasLine lines j
+  drawn-has = d .drawn j h .has
+
+  pub drawn-is : {r : List ℕ} → r ≡ lineIn lines j → r ≡ lineOf asked j
+  drawn-is e = e ∙ d .drawn j h .is

@@ -1,7 +1,7 @@
 // "a profile key s lets (j, k) step to chain node i (i ≤ k, i ≤ n) when ..": the first step in the ranges of the loops, a function for each
 // loop. A context is tested once for each key and node.
-use crate::landing::all_land;
-use crate::landing::chain_end;
+use landings::all_land;
+use landings::chain_end;
 use paths::member;
 use pattern_lines::line;
 use places::front_length;
@@ -12,7 +12,7 @@ use shapes::keys::count;
 use shapes::keys::target;
 ghost use mathlib.Core.Path.{_≡_};
 ghost use Rattle.meaning.specs.Records.{keyIn};
-ghost use Rattle.steps.specs.Landing.{KeyOnSpot};
+ghost use Rattle.landings.specs.Landing.{KeyOnSpot};
 ghost use Rattle.steps.specs.Firing.{firesFrom, FromNode, OnBranch, ToNode, OfKey, OfKeys, Sought, HitOn, Hit, NoneOn, NoneTo, NoneOf, HitKeys, NoneKeys};
 
 // A remembered step: profile key number `key` lets spot (branch, spot) step to chain node `node`.

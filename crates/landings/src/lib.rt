@@ -16,14 +16,16 @@ ghost use Rattle.meaning.specs.Lists.{every, any, numbers};
 ghost use Rattle.meaning.specs.Records.{readKey, keyIn, isSome};
 ghost use Rattle.meaning.specs.Pattern.{tOf};
 ghost use Rattle.theory_derive.specs.Spots.{landsOn, lands as isLanding};
-ghost use Rattle.steps.specs.Landing.{markedIn, landsIn, OnLine, OnChain, OnSpot, KeyOnSpot};
+ghost use Rattle.landings.specs.Landing.{markedIn, landsIn, OnLine, OnChain, OnSpot, KeyOnSpot};
 
 // The number of t: "from the root along C to q, on along T to t".
 pub fn chain_end(asked: &[u8]) -> usize
     requires { ⌜ isSome (readKey (now asked)) ≡ true ⌝ }
     ensures { λ r. ⌜ r ≡ tOf (keyIn (now (asked .entry))) ⌝ }
 {
-    context(asked).len() + target(asked).len()
+    let c = context(asked);
+    let t = target(asked);
+    c.len() + t.len()
 }
 
 // "marked: k = |line j|, or S holds e and k ≥ n".
@@ -63,7 +65,8 @@ fn lands_some(asked: &[u8], lines: &[u8], path: &[u8], k: usize) -> bool
     let n = count(asked);
     let mut j = 0;
     while j < n {
-        if lands_in(asked, line(lines, j), path, k) {
+        let symbols = line(lines, j);
+        if lands_in(asked, symbols, path, k) {
             return true;
         }
         j += 1;
@@ -79,7 +82,8 @@ fn lands(asked: &[u8], lines: &[u8], path: &[u8], j: usize, k: usize) -> bool
     if k <= chain_end(asked) {
         return lands_some(asked, lines, path, k);
     }
-    lands_in(asked, line(lines, j), path, k)
+    let symbols = line(lines, j);
+    lands_in(asked, symbols, path, k)
 }
 
 // Every key path of the profile key lands.
