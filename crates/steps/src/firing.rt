@@ -12,8 +12,8 @@ use shapes::keys::count;
 use shapes::keys::target;
 ghost use mathlib.Core.Path.{_≡_};
 ghost use Rattle.meaning.specs.Records.{keyIn};
-ghost use Rattle.landings.specs.Landing.{KeyOnSpot};
 ghost use Rattle.steps.specs.Firing.{firesFrom, FromNode, OnBranch, Sought, HitOn, NoneOn};
+ghost use Rattle.steps.specs.Ranges.{ToNode, OfKey, OfKeys, Hit, NoneTo, NoneOf, HitKeys, NoneLeft};
 
 // A remembered step: profile key number `key` lets spot (branch, spot) step to chain node `node`.
 pub struct Taken {
@@ -62,3 +62,61 @@ fn fire_on(asked: &[u8], lines: &[u8], key: &[u8], number: usize, i: usize, j: u
     Fire::None
 }
 
+// The first spot below u that the key lets step to node i. Down to t one branch stands for all.
+fn fire_to(asked: &[u8], lines: &[u8], key: &[u8], number: usize, i: usize, u: usize) -> Fire
+    requires { ⌜ ToNode (now asked) (now lines) (now key) i u ⌝ }
+    ensures { λ r. ⌜ Sought (Hit (keyIn (now (asked .entry))) (keyIn (now (key .entry))) number u) (NoneTo (keyIn (now (asked .entry))) (keyIn (now (key .entry))) u i) r ⌝ }
+{
+    let symbols = line(lines, 0);
+    if !member(&symbols[..i], context(key)) {
+        return Fire::None;
+    }
+    let below = chain_end(asked) + 1;
+    let n = count(asked);
+    let mut from = u + 1;
+    let mut j = 0;
+    while j < n {
+        let found = fire_on(asked, lines, key, number, i, j, from);
+        if let Fire::At(taken) = found {
+            return Fire::At(taken);
+        }
+        from = below;
+        j += 1;
+    }
+    Fire::None
+}
+
+// The first step of one key to u or above.
+fn fire_of(asked: &[u8], lines: &[u8], key: &[u8], number: usize, u: usize) -> Fire
+    requires { ⌜ OfKey (now asked) (now lines) (now key) u ⌝ }
+    ensures { λ r. ⌜ Sought (Hit (keyIn (now (asked .entry))) (keyIn (now (key .entry))) number u) (NoneOf (keyIn (now (asked .entry))) u (keyIn (now (key .entry)))) r ⌝ }
+{
+    let mut i = 0;
+    while i <= u {
+        let found = fire_to(asked, lines, key, number, i, u);
+        if let Fire::At(taken) = found {
+            return Fire::At(taken);
+        }
+        i += 1;
+    }
+    Fire::None
+}
+
+// The first step of a profile key to u or above.
+pub fn fire_in(profile: &[u8], labels: usize, keys: usize, asked: &[u8], lines: &[u8], u: usize) -> Fire
+    requires { ⌜ OfKeys (now profile) labels keys (now asked) (now lines) u ⌝ }
+    ensures { λ r. ⌜ Sought (HitKeys (now (profile .entry)) labels keys (now (asked .entry)) u) (NoneLeft (now (profile .entry)) labels keys (now (asked .entry)) u) r ⌝ }
+{
+    let mut rest = record_at(profile, labels);
+    let mut number = 0;
+    while number < keys {
+        let end = front_length(rest);
+        let found = fire_of(asked, lines, &rest[HEAD_BYTES..end], number, u);
+        if let Fire::At(taken) = found {
+            return Fire::At(taken);
+        }
+        rest = &rest[end..];
+        number += 1;
+    }
+    Fire::None
+}
