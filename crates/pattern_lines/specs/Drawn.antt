@@ -61,6 +61,7 @@ pub record IsLine (asked : Key) (lines : List ℕ) (j : ℕ) : Type 0 where
   pub short : length (lineOf asked j) ≤ 24
 
 pub record Drawn (asked : Key) (lines : List ℕ) : Type 0 where
+  pub size : length lines ≡ 100
   pub few : length (asked .paths) ≤ 4
   pub drawn : (j : ℕ) → j < length (asked .paths) → IsLine asked lines j
 
@@ -182,7 +183,7 @@ pub drawing-end : {body : List ℕ} {n j : ℕ} {rest lines : List ℕ} → Draw
 drawing-end {body} {n} {j} {rest} {lines} d h =
     let e = d .number in
     let f = d .asked .few in
-    record { few = f; drawn = λ i k. stands-line (keyIn body) lines i (d .size) (omega arith) (d .drawn i (omega arith)) }
+    record { size = d .size; few = f; drawn = λ i k. stands-line (keyIn body) lines i (d .size) (omega arith) (d .drawn i (omega arith)) }
 
 -- a line from its length, C, T and the key path
 pub line-written : {old : List ℕ} {at : ℕ} {c t path one two three four : List ℕ} (asked : Key) → c ≡ asked .context → t ≡ asked .target

@@ -42,7 +42,15 @@ fn fires_from(asked: &[u8], lines: &[u8], key: &[u8], i: usize, j: usize, k: usi
 }
 
 // The first spot of branch j, from one spot on, that the key lets step to node i.
-fn fire_on(asked: &[u8], lines: &[u8], key: &[u8], number: usize, i: usize, j: usize, from: usize) -> Fire
+fn fire_on(
+    asked: &[u8],
+    lines: &[u8],
+    key: &[u8],
+    number: usize,
+    i: usize,
+    j: usize,
+    from: usize,
+) -> Fire
     requires { ⌜ OnBranch (now asked) (now lines) (now key) i j from ⌝ }
     ensures { λ r. ⌜ Sought (HitOn (keyIn (now (asked .entry))) (keyIn (now (key .entry))) number i j from) (NoneOn (keyIn (now (asked .entry))) (keyIn (now (key .entry))) i j from) r ⌝ }
 {
@@ -103,7 +111,14 @@ fn fire_of(asked: &[u8], lines: &[u8], key: &[u8], number: usize, u: usize) -> F
 }
 
 // The first step of a profile key to u or above.
-pub fn fire_in(profile: &[u8], labels: usize, keys: usize, asked: &[u8], lines: &[u8], u: usize) -> Fire
+pub fn fire_in(
+    profile: &[u8],
+    labels: usize,
+    keys: usize,
+    asked: &[u8],
+    lines: &[u8],
+    u: usize,
+) -> Fire
     requires { ⌜ OfKeys (now profile) labels keys (now asked) (now lines) u ⌝ }
     ensures { λ r. ⌜ Sought (HitKeys (now (profile .entry)) labels keys (now (asked .entry)) u) (NoneLeft (now (profile .entry)) labels keys (now (asked .entry)) u) r ⌝ }
 {
