@@ -1,8 +1,8 @@
 -- Each rule as a chain of tests: a law for each return of its function.
 use Prim.Native.Nat.{ℕ}
-use mathlib.Core.Path.{_≡_, refl, sym, ap, ap₂, subst, _∙_}
-use mathlib.Core.Bool.{Bool, true, false, _&&_, _||_, not}
-use mathlib.Core.List.{List, [], _∷_, _++_}
+use mathlib.Core.Path.{_≡_, refl, ap, ap₂, _∙_}
+use mathlib.Core.Bool.{Bool, true, false, _&&_, not}
+use mathlib.Core.List.{List, _++_}
 use Rattle.meaning.specs.Lists.{any, isEmpty, same}
 use Rattle.meaning.specs.Paths.{member, simple, join}
 use Rattle.meaning.specs.Keys.{Key}

@@ -1,7 +1,7 @@
 -- Comparing with a join in place: a law for each return.
-use Prim.Native.Nat.{ℕ, zero, suc, _+_, _-_, _<_, _≤_}
-use mathlib.Core.Path.{_≡_, refl, sym, ap, ap₂, subst, _∙_}
-use mathlib.Core.Bool.{Bool, true, false, cond, _&&_, _||_, not}
+use Prim.Native.Nat.{ℕ, zero, suc, _-_, _<_, _≤_}
+use mathlib.Core.Path.{_≡_, refl, sym, ap, ap₂, _∙_}
+use mathlib.Core.Bool.{Bool, true, false, _&&_, not}
 use mathlib.Core.List.{List, [], _∷_, _++_}
 use native.Mathlib.Omega.{arith}
 use lib.Dec.{T, eqb, eqb·suc-zero}
@@ -11,7 +11,7 @@ use borrow.Author.Tests.{not-true, not-false, eq-eqb, ne-eqb}
 use borrow.Rule.Slice.PartAt.{part-to-end}
 use Rattle.meaning.specs.Lists.{same}
 use Rattle.meaning.specs.Paths.{normal, norm, join}
-use Rattle.theory_paths.specs.Bools.{bool-eq, same-eq, eq-same, true-of, of-true, false-of, of-false}
+use Rattle.theory_paths.specs.Bools.{bool-eq, same-eq, eq-same, of-true, false-of, of-false}
 use Rattle.theory_paths.specs.Normal.{norm-of-normal}
 use Rattle.theory_lines.specs.Cuts.{startsAny}
 

@@ -6,26 +6,26 @@ use mathlib.Core.Bool.{Bool, true, false, _&&_, _||_, not}
 use mathlib.Core.List.{List, [], _∷_, _++_}
 use native.Mathlib.Numerals.{add-one}
 use native.Mathlib.Omega.{arith}
-use lib.Dec.{T, leb, eqb, eqb·suc-zero, leb→le}
-use lib.ListN.{length, getD, take, drop, take-append-drop, length-append, length-take, length-drop}
+use lib.Dec.{T, leb, eqb, eqb·suc-zero}
+use lib.ListN.{length, getD, take, drop, take-append-drop, length-append, length-take}
 use lib.Seq.{take-suc, getD-drop}
-use borrow.Author.Tests.{not-true, not-false, le-leb, lt-leb, leb-true, eq-eqb, ne-eqb}
+use borrow.Author.Tests.{not-true, not-false, le-leb, lt-leb, leb-true}
 use borrow.Rule.Slice.PartAt.{part-to-end}
-use Rattle.meaning.specs.Lists.{isEmpty, same}
+use Rattle.meaning.specs.Lists.{same}
 use Rattle.meaning.specs.Paths.{normal, simple, join}
 use Rattle.meaning.specs.Keys.{Key}
-use Rattle.meaning.specs.Records.{readKey, keyIn, isSome}
+use Rattle.meaning.specs.Records.{keyIn}
 use Rattle.meaning.specs.Rules.{withEmpty}
-use Rattle.theory_paths.specs.Bools.{bool-eq, same-eq, eq-same, and-left, and-right, both, of-true, true-of, false-of, of-false}
+use Rattle.theory_paths.specs.Bools.{bool-eq, same-eq, eq-same, and-left, and-right, both, of-true, true-of, false-of}
 use Rattle.theory_paths.specs.Normal.{normal-left}
 use Rattle.theory_lines.specs.Beginnings.{begins, begins-split}
-use Rattle.theory_lines.specs.SameParts.{sameContext, sameTarget, sameSets, sets-eq, eq-sets}
+use Rattle.theory_lines.specs.SameParts.{sameContext, sameSets, sets-eq, eq-sets}
 use Rattle.theory_lines.specs.Subnodes.{goesOn, further, onlyPath, lastPath}
 use Rattle.theory_lines.specs.Cuts.{endsPath, beforeEnd, startsAny}
 use Rattle.theory_lines.specs.Interactions.{prefixed, interactionTest}
 use Rattle.paths.specs.Forms.{isBeginning, beginning-rest}
 use Rattle.rule_tests.specs.Walks.{beginning-is}
-use Rattle.rule_tests.specs.Compare.{BothNormal, stop, go-on, and-three, test-true}
+use Rattle.rule_tests.specs.Compare.{BothNormal, stop, go-on}
 use Rattle.rule_tests.specs.Parts.{TwoKeys, LineKey, LineKeys}
 
 -- T goes on behind the new target

@@ -1,5 +1,4 @@
 use Rattle.lines.specs.Premises.{cites-none, cites-some, cite-head, cite-start, cite-end}
-use native.Mathlib.Omega.{arith}
 use borrow.Author.Needs.{needs}
 use Rattle.lines.proofs.follow.cites.Statement.{statement}
 use Rattle.lines.proofs.follow.cites.Tie as tie
