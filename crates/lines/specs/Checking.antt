@@ -124,11 +124,20 @@ walk-extends labels base n l =
     (record { more = []; is = sym (append-nil base) })
     .held
 
-module _ {labels : List Label} {keys : List Key} {proof : List ℕ} {n : ℕ} {rest : List ℕ} (s : Sofar labels keys proof n rest)
-    {classes : List ℕ} (tabled : Tabled labels classes) (some : 0 < length rest)
-    {number : ℕ} (told : number ≡ firstOf (lineTestsBy classes n rest)) where
+-- one line more is there, and was given a number up to 6
+pub record LineJudged (labels : List Label) (keys : List Key) (proof classes : List ℕ) (n : ℕ) (rest : List ℕ) (number : ℕ) : Type 0 where
+  pub sofar : Sofar labels keys proof n rest
+  pub tabled : Tabled labels classes
+  pub isLine : 0 < length rest
+  pub told : number ≡ firstOf (lineTestsBy classes n rest)
+
+module _ {labels : List Label} {keys : List Key} {proof classes : List ℕ} {n : ℕ} {rest : List ℕ} {number : ℕ}
+    (read : LineJudged labels keys proof classes n rest number) where
+  s : Sofar labels keys proof n rest
+  s = read .sofar
+
   judged : number ≡ firstOf (lineTests labels (linesFrom n proof) rest)
-  judged = told ∙ line-agrees tabled rest (s .small) n (linesFrom n proof) (s .lines .counted)
+  judged = read .told ∙ line-agrees (read .tabled) rest (s .small) n (linesFrom n proof) (s .lines .counted)
 
   pub sofar-refused : (question : Key) → (number ≡ 0 → ⊥) → ProofJudged labels keys question (proofWalked labels proof) (checkedAnswer (Refused number n))
   unfolding checkedAnswer
@@ -138,7 +147,8 @@ module _ {labels : List Label} {keys : List Key} {proof : List ℕ} {n : ℕ} {r
       go zero e = absurd (ne e)
       go (suc m) e =
           subst (λ (w : Walked (List Line)). ProofJudged labels keys question w (refusedBy (record { number = number; input = 3; place = n }) []))
-          (sym (walk-stop (lineTests labels) (λ (lines : List Line) (l : List ℕ). lines ++ (readLine (recordBody l) ∷ [])) n m (linesFrom n proof) rest some (sym judged ∙ e)) ∙ s .walked)
+          (sym (walk-stop (lineTests labels) (λ (lines : List Line) (l : List ℕ). lines ++ (readLine (recordBody l) ∷ [])) n m (linesFrom n proof) rest (read .isLine)
+          (sym judged ∙ e)) ∙ s .walked)
           (faulty
           (subst (FollowsBelow labels keys (linesFrom n proof)) (s .lines .counted) (s .follow))
           (omega arith)
@@ -157,7 +167,7 @@ module _ {labels : List Label} {keys : List Key} {proof : List ℕ} {n : ℕ} {r
     step : walk (lineTests labels) (λ (lines : List Line) (l : List ℕ). lines ++ (readLine (recordBody l) ∷ [])) 0 (suc n)
         (linesFrom n proof ++ (readLine (recordBody rest) ∷ [])) (drop (recordLength rest) rest) ≡ proofWalked labels proof
     step =
-        sym (walk-step (lineTests labels) (λ (lines : List Line) (l : List ℕ). lines ++ (readLine (recordBody l) ∷ [])) n (linesFrom n proof) rest some
+        sym (walk-step (lineTests labels) (λ (lines : List Line) (l : List ℕ). lines ++ (readLine (recordBody l) ∷ [])) n (linesFrom n proof) rest (read .isLine)
         (sym judged ∙ zero-number) (omega (arith, its .isWhole .long)))
         ∙ s .walked
 

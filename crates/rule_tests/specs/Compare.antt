@@ -55,16 +55,16 @@ meets [] back = false
 meets (s ∷ []) back = eqb s 0 && startsAny back
 meets (s ∷ t ∷ front) back = meets (t ∷ front) back
 
-starts-at : (back : List ℕ) → 0 < length back → eqb (getD back 0 0) 0 ≡ startsAny back
+pub starts-empty : (l : List ℕ) → length l ≡ 0 → false ≡ startsAny l
 unfolding startsAny
-starts-at [] h = absurd (omega arith)
-starts-at (zero ∷ back) h = refl
-starts-at (suc b ∷ back) h = eqb·suc-zero b
+starts-empty [] e = refl
+starts-empty (b ∷ l) e = absurd (omega arith)
 
-starts-none : (back : List ℕ) → length back ≡ 0 → startsAny back ≡ false
+pub starts-first : (l : List ℕ) → (length l ≡ 0 → ⊥) → eqb (getD l 0 0) 0 ≡ startsAny l
 unfolding startsAny
-starts-none [] e = refl
-starts-none (b ∷ back) e = absurd (omega arith)
+starts-first [] h = absurd (h refl)
+starts-first (zero ∷ l) h = refl
+starts-first (suc s ∷ l) h = eqb·suc-zero s
 
 meets-last : (front back : List ℕ) → 0 < length front → meets front back ≡ (eqb (getD front (length front - 1) 0) 0 && startsAny back)
 unfolding meets
@@ -92,7 +92,7 @@ module _ (front back : List ℕ) where
       go (s ∷ l) e = absurd (omega arith)
 
   pub meets-no-back : (length front ≡ 0 → ⊥) → length back ≡ 0 → false ≡ meets front back
-  meets-no-back f e = let h : 0 < length front = omega arith in rw (meets-last front back h, starts-none back e) (and-none (eqb (getD front (length front - 1) 0) 0))
+  meets-no-back f e = let h : 0 < length front = omega arith in rw (meets-last front back h, sym (starts-empty back e)) (and-none (eqb (getD front (length front - 1) 0) 0))
 
   pub meets-label : (length front ≡ 0 → ⊥) → (getD front (length front - 1) 0 ≡ 0 → ⊥) → false ≡ meets front back
   meets-label f n = let h : 0 < length front = omega arith in rw (meets-last front back h, ne-eqb (getD front (length front - 1) 0) 0 n)
@@ -100,8 +100,7 @@ module _ (front back : List ℕ) where
   pub meets-any : (length front ≡ 0 → ⊥) → (length back ≡ 0 → ⊥) → getD front (length front - 1) 0 ≡ 0 → eqb (getD back 0 0) 0 ≡ meets front back
   meets-any f g e =
       let h : 0 < length front = omega arith in
-      let k : 0 < length back = omega arith in
-      rw (meets-last front back h, eq-eqb (getD front (length front - 1) 0) 0 e) (starts-at back k)
+      rw (meets-last front back h, eq-eqb (getD front (length front - 1) 0) 0 e) (starts-first back g)
 
 pub record BothNormal (a b : List ℕ) : Type 0 where
   pub front : T (normal a)

@@ -151,10 +151,6 @@ two-paths : (y : ℕ) (r : List ℕ) → [] ∷ (y ∷ r) ∷ [] ≡ withEmpty (
 unfolding withEmpty
 two-paths y r = refl
 
-empty-eq : (l : List ℕ) → length l ≡ 0 → l ≡ []
-empty-eq [] e = refl
-empty-eq (x ∷ l) e = absurd (omega arith)
-
 module _ (b : Key) {n : ℕ} (e : n ≡ length (b .paths)) where
   pub with-empty-one : n ≡ 1 → {l : List ℕ} → l ≡ getD (b .paths) 0 [] → eqb (length l) 0 ≡ sameSets (b .paths) (withEmpty (lastPath b))
   unfolding lastPath
@@ -311,17 +307,6 @@ module _ {p k : List ℕ} (c : Cut p k) where
     cut-second t e h g =
         let st : startsAny (keyIn k .target) ≡ true = sym (e ∙ ap startsAny f) ∙ not-false _ h in
         g ∙ rw (first ∙ t, st, sym (more-is st), w, f, a, o)
-
-pub starts-empty : (l : List ℕ) → length l ≡ 0 → false ≡ startsAny l
-unfolding startsAny
-starts-empty [] e = refl
-starts-empty (x ∷ l) e = absurd (omega arith)
-
-pub starts-first : (l : List ℕ) → (length l ≡ 0 → ⊥) → eqb (getD l 0 0) 0 ≡ startsAny l
-unfolding startsAny
-starts-first [] h = absurd (h refl)
-starts-first (zero ∷ l) h = refl
-starts-first (suc s ∷ l) h = eqb·suc-zero s
 
 -- rule 9
 unfoldable pub premisesMeet : Key → Key → Bool
