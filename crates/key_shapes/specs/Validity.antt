@@ -6,9 +6,9 @@ use mathlib.Core.List.{List, [], _∷_, _++_, append-nil}
 use native.Mathlib.Omega.{arith}
 use lib.Dec.{eqb}
 use lib.ListN.{length, getD, drop, length-drop}
-use borrow.Author.Tests.{eq-eqb, ne-eqb, not-true, not-false}
+use borrow.Author.Tests.{ne-eqb, not-true, not-false}
 use Rattle.meaning.specs.Lists.{every, isEmpty}
-use Rattle.meaning.specs.Paths.{Class, element, attribute, text, isElement, norm, join, valid}
+use Rattle.meaning.specs.Paths.{Class, element, attribute, isElement, norm, join, valid}
 use Rattle.meaning.specs.Keys.{Key}
 use Rattle.shapes.specs.Classes.{classBy, allValidBy}
 use Rattle.shapes.specs.Scans.{drop-step}

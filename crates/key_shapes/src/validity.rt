@@ -10,7 +10,7 @@ use shapes::keys::paths;
 use shapes::keys::target;
 ghost use mathlib.Core.Path.{_≡_};
 ghost use mathlib.Core.Bool.{true, _&&_};
-ghost use mathlib.Core.List.{List, _++_};
+ghost use mathlib.Core.List.{_++_};
 ghost use Rattle.meaning.specs.Lists.{every};
 ghost use Rattle.meaning.specs.Paths.{valid};
 ghost use Rattle.meaning.specs.Records.{readKey, keyIn, isSome};

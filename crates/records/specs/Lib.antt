@@ -2,3 +2,8 @@
 pub mod Labels
 pub mod Keys
 pub mod Agree
+pub mod KeyWalks
+pub mod LabelWalks
+pub mod ProfileWalks
+pub mod QuestionWalks
+pub mod LineWalks

@@ -1,31 +1,14 @@
 -- Labels of a tree by the class table, return by return.
 use Prim.Native.Nat.{ℕ, _<_}
 use mathlib.Core.Path.{_≡_, refl}
-use mathlib.Core.Bool.{Bool, true, false, cond, _||_, not}
+use mathlib.Core.Bool.{Bool, true, false, _||_, not}
 use mathlib.Core.List.{List}
 use borrow.Author.Tests.{eq-eqb, ne-eqb}
 use lib.Dec.{eqb}
 use lib.ListN.{getD}
-use Rattle.meaning.specs.Paths.{Class, element, attribute, text, isElement}
-use Rattle.shapes.specs.Classes.{declaredBy, classBy, isLabelBy}
+use Rattle.shapes.specs.Classes.{declaredBy, isLabelBy}
 
 module _ (classes : List ℕ) (n : ℕ) where
-  pub element-text : n ≡ 1 → false ≡ isElement (classBy classes n)
-  unfolding classBy isElement
-  element-text e = rw e
-
-  pub element-filler : n ≡ 202 → false ≡ isElement (classBy classes n)
-  unfolding classBy isElement
-  element-filler e = rw e
-
-  pub element-entry : (n ≡ 1 → ⊥) → (n ≡ 202 → ⊥) → {i : ℕ} → i ≡ n → not (eqb (getD classes i 0) 2) ≡ isElement (classBy classes n)
-  unfolding classBy isElement
-  element-entry a b e = rw (e, ne-eqb n 1 a, ne-eqb n 202 b) (go (eqb (getD classes n 0) 2))
-    where
-      go : (x : Bool) → not x ≡ isElement (cond x attribute element)
-      go true = refl
-      go false = refl
-
   pub label-text : n ≡ 1 → true ≡ isLabelBy classes n
   unfolding isLabelBy
   label-text e = rw e
@@ -46,9 +29,9 @@ module _ (classes : List ℕ) (n : ℕ) where
       go true = refl
       go false = refl
 
-  pub label-entry : (n ≡ 1 → ⊥) → (n ≡ 201 → ⊥) → (n ≡ 202 → ⊥) → {i : ℕ} → i ≡ n → not (eqb (getD classes i 0) 0) ≡ isLabelBy classes n
+  pub label-entry : (n ≡ 1 → ⊥) → (n ≡ 201 → ⊥) → (n ≡ 202 → ⊥) → not (eqb (getD classes n 0) 0) ≡ isLabelBy classes n
   unfolding isLabelBy declaredBy
-  label-entry a b d e = rw (e, ne-eqb n 1 a, ne-eqb n 201 b, ne-eqb n 202 d) (go (not (eqb (getD classes n 0) 0)))
+  label-entry a b d = rw (ne-eqb n 1 a, ne-eqb n 201 b, ne-eqb n 202 d) (go (not (eqb (getD classes n 0) 0)))
     where
       go : (x : Bool) → x ≡ (x || false || false)
       go true = refl

@@ -39,28 +39,35 @@ module _ (classes bytes : List ℕ) (n : ℕ) (x : Node) {p : ℕ} (e : p ≡ x 
   unfolding goodBelowBy
   below-order h = rw (le-ltb (x .parent) n (omega arith))
 
-  module _ (h : p < n) {a : Bool} (above : a ≡ isElement (classBy classes (getD bytes (9 * p + 6) 0))) where
+  module _ (h : p < n) {y : ℕ} (its : y ≡ getD bytes (9 * p + 6) 0) {a : Bool} (above : a ≡ isElement (classBy classes y)) where
     inside : {b : Bool} → a ≡ b → isElement (classBy classes (getD bytes (9 * x .parent + 6) 0)) ≡ b
-    inside t = sym (ap (λ (k : ℕ). isElement (classBy classes (getD bytes (9 * k + 6) 0))) e) ∙ (sym above ∙ t)
+    inside t =
+        sym (ap (λ (k : ℕ). isElement (classBy classes k)) (its ∙ ap (λ (k : ℕ). getD bytes (9 * k + 6) 0) e)) ∙ (sym above ∙ t)
 
     pub below-parent : not a ≡ true → false ≡ goodBelowBy classes bytes n x
     unfolding goodBelowBy
     below-parent t = rw (lt-ltb (x .parent) n (omega arith), inside (not-true _ t))
 
-    module _ (t : not a ≡ false) {k : Bool} (known : k ≡ isLabelBy classes (x .label)) where
+    module _ (t : not a ≡ false) {l : ℕ} (label : l ≡ x .label) {k : Bool} (isKnown : k ≡ isLabelBy classes l) where
+      known : k ≡ isLabelBy classes (x .label)
+      known = isKnown ∙ ap (isLabelBy classes) label
+
       pub below-label : not k ≡ true → false ≡ goodBelowBy classes bytes n x
       unfolding goodBelowBy
       below-label u = rw (lt-ltb (x .parent) n (omega arith), inside (not-false _ t), sym known ∙ not-true _ u)
 
-      module _ (u : not k ≡ false) {v : Bool} (its : v ≡ isElement (classBy classes (x .label))) where
+      module _ (u : not k ≡ false) {v : Bool} (isElem : v ≡ isElement (classBy classes l)) where
+        kind : v ≡ isElement (classBy classes (x .label))
+        kind = isElem ∙ ap (λ (m : ℕ). isElement (classBy classes m)) label
+
         pub below-leaf : not v ≡ true → true ≡ goodBelowBy classes bytes n x
         unfolding goodBelowBy
-        below-leaf w = rw (lt-ltb (x .parent) n (omega arith), inside (not-false _ t), sym known ∙ not-false _ u, sym its ∙ not-true _ w)
+        below-leaf w = rw (lt-ltb (x .parent) n (omega arith), inside (not-false _ t), sym known ∙ not-false _ u, sym kind ∙ not-true _ w)
 
         pub below-value : not v ≡ false → {y : ℕ} → y ≡ x .value → eqb y 0 ≡ goodBelowBy classes bytes n x
         unfolding goodBelowBy
         below-value w q =
-            rw (lt-ltb (x .parent) n (omega arith), inside (not-false _ t), sym known ∙ not-false _ u, sym its ∙ not-false _ w, ← q)
+            rw (lt-ltb (x .parent) n (omega arith), inside (not-false _ t), sym known ∙ not-false _ u, sym kind ∙ not-false _ w, ← q)
 
 -- The root, return by return
 module _ (x : Node) {p : ℕ} (e : p ≡ x .parent) where

@@ -8,59 +8,42 @@ use shapes::bodies::NODE_KIND;
 use shapes::bodies::whole;
 use shapes::fields::HEAD_BYTES;
 use shapes::fields::KIND_AT;
-use shapes::fields::NODE_LABEL_AT;
 use shapes::fields::node_label;
 use shapes::fields::node_parent;
 use shapes::fields::node_value;
 use shapes::fields::too_many;
 use shapes::fields::wide;
 use shapes::fields::word;
+use tree_nodes::fields::NODE_BYTES;
+use tree_nodes::fields::is_element;
 ghost use mathlib.Core.Path.{_≡_};
-ghost use Prim.Native.Nat.{_*_, _≤_};
+ghost use Prim.Native.Nat.{_*_, _<_, _≤_};
 ghost use lib.ListN.{length};
-ghost use Rattle.meaning.specs.Paths.{isElement};
 ghost use Rattle.meaning.specs.Records.{readNode};
 ghost use Rattle.meaning.specs.Refusals.{firstOf, goodRoot};
-ghost use Rattle.shapes.specs.Classes.{classBy, isLabelBy};
+ghost use Rattle.shapes.specs.Classes.{isLabelBy};
 ghost use Rattle.tree_records.specs.Nodes.{goodBelowBy, goodNodeBy, nodeTestsBy};
 
 // "Label 1 is text"; "201 is a filler element, 202 a filler attribute, 203 the root"
-const TEXT: u8 = 1;
+const TEXT: usize = 1;
 
-const FILLER_ELEMENT: u8 = 201;
+const FILLER_ELEMENT: usize = 201;
 
-const FILLER_ATTRIBUTE: u8 = 202;
+const FILLER_ATTRIBUTE: usize = 202;
 
 const ROOT_LABEL: usize = 203;
 // "the root is node 0 with parent 65535"
 const NO_NUMBER: usize = 65535;
 // "tree 4,096 nodes (36,864 bytes)"
 pub const TREE_NODES: usize = 4096;
-// The bytes of a node's record, and where its label stands in it
-pub const NODE_BYTES: usize = 9;
-
-pub const LABEL_IN_RECORD: usize = 6;
-// Entries of the class table
+// Where the label stands in a node's record
+const LABEL_IN_RECORD: usize = 6;
+// A label that the class table does not declare
 const UNDECLARED: u8 = 0;
 
-const ATTRIBUTE: u8 = 2;
-
-// The class table counts a label as an element.
-pub fn is_element(label: u8, classes: &[u8; 256]) -> bool
-    ensures { λ r. ⌜ r ≡ isElement (classBy (now (classes .entry)) label) ⌝ }
-{
-    if label == TEXT {
-        return false;
-    }
-    if label == FILLER_ATTRIBUTE {
-        return false;
-    }
-    let class = classes[wide(label)];
-    class != ATTRIBUTE
-}
-
 // "A tree file holds only these three, 1 and declared labels."
-pub fn is_label(label: u8, classes: &[u8; 256]) -> bool
+pub fn is_label(classes: &[u8; 256], label: usize) -> bool
+    requires { ⌜ label < 256 ⌝ }
     ensures { λ r. ⌜ r ≡ isLabelBy (now (classes .entry)) label ⌝ }
 {
     if label == TEXT {
@@ -72,7 +55,7 @@ pub fn is_label(label: u8, classes: &[u8; 256]) -> bool
     if label == FILLER_ATTRIBUTE {
         return true;
     }
-    let class = classes[wide(label)];
+    let class = classes[label];
     class != UNDECLARED
 }
 
@@ -99,14 +82,15 @@ fn good_below(bytes: &[u8], nodes: usize, body: &[u8], classes: &[u8; 256]) -> b
     if nodes <= parent {
         return false;
     }
-    if !is_element(bytes[NODE_BYTES * parent + LABEL_IN_RECORD], classes) {
+    let above = wide(bytes[NODE_BYTES * parent + LABEL_IN_RECORD]);
+    if !is_element(classes, above) {
         return false;
     }
-    let label = body[NODE_LABEL_AT];
-    if !is_label(label, classes) {
+    let label = node_label(body);
+    if !is_label(classes, label) {
         return false;
     }
-    if !is_element(label, classes) {
+    if !is_element(classes, label) {
         return true;
     }
     node_value(body) == 0

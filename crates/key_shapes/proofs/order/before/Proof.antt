@@ -1,11 +1,8 @@
-use native.Mathlib.Omega.{arith}
+-- `key_shapes::order::before` meets its contract. One law of specs/ for each return.
 use Rattle.key_shapes.specs.Order.{before-shorter, before-longer, before-lower}
 use borrow.Author.Needs.{needs}
 use Rattle.key_shapes.proofs.order.before.Statement.{statement}
 use Rattle.key_shapes.proofs.order.before.Tie as tie
-use Rattle.key_shapes.proofs.order.before.Reads as reads
-use Rattle.key_shapes.proofs.order.before.Lts as lts
-use Rattle.key_shapes.proofs.order.lower.Reads as lower-reads
 
 -- src/order.rt:37:9
 returns : tie.Need-returns

@@ -1,12 +1,8 @@
-use native.Mathlib.Omega.{arith}
+-- `key_shapes::order::good_set` meets its contract. One law of specs/ for each return.
 use Rattle.key_shapes.specs.Order.{set-none, set-many, set-order}
 use borrow.Author.Needs.{needs}
 use Rattle.key_shapes.proofs.order.good_set.Statement.{statement}
 use Rattle.key_shapes.proofs.order.good_set.Tie as tie
-use Rattle.key_shapes.proofs.order.good_set.Reads as reads
-use Rattle.key_shapes.proofs.order.good_set.Lts as lts
-use Rattle.key_shapes.proofs.order.in_order.Reads as in-order-reads
-use Rattle.shapes.proofs.keys.count.Reads as count-reads
 
 -- src/order.rt:70:9
 count-requires : tie.Need-count-requires

@@ -1,3 +1,4 @@
+-- `key_shapes::order::in_order` meets its contract. Each turn compares two neighbouring key paths in place (`OrderAt`).
 use borrow.Author.Needs.{needs}
 use native.Mathlib.Omega.{arith}
 use Prim.Native.Nat.{_-_}
@@ -7,13 +8,6 @@ use Rattle.shapes.specs.KeyPaths.{at-holds, at-next}
 use Rattle.key_shapes.specs.Order.{OrderAt, order-start, order-stop, order-next, order-end}
 use Rattle.key_shapes.proofs.order.in_order.Statement.{statement}
 use Rattle.key_shapes.proofs.order.in_order.Tie as tie
-use Rattle.key_shapes.proofs.order.in_order.Reads as reads
-use Rattle.key_shapes.proofs.order.in_order.Lts as lts
-use Rattle.key_shapes.proofs.order.before.Reads as before-reads
-use Rattle.shapes.proofs.bodies.after_path.Reads as after-path-reads
-use Rattle.shapes.proofs.bodies.lead_path.Reads as lead-path-reads
-use Rattle.shapes.proofs.keys.count.Reads as count-reads
-use Rattle.shapes.proofs.keys.paths.Reads as paths-reads
 
 abbrev Inv-loop : tie.InvT-loop
 Inv-loop body n rest₀ i₀ rest i = OrderAt (keyIn body .paths) i rest (ascending (keyIn body .paths))

@@ -1,3 +1,4 @@
+-- `key_shapes::order::lower` meets its contract. The loop compares the two runs from the front (`LowerAt`).
 use borrow.Author.Needs.{needs}
 use native.Mathlib.Omega.{arith}
 use Prim.Native.Nat.{_-_}
@@ -6,8 +7,6 @@ use Rattle.meaning.specs.Lists.{lower}
 use Rattle.key_shapes.specs.Order.{LowerAt, lower-start, lower-less, lower-greater, lower-next, lower-end}
 use Rattle.key_shapes.proofs.order.lower.Statement.{statement}
 use Rattle.key_shapes.proofs.order.lower.Tie as tie
-use Rattle.key_shapes.proofs.order.lower.Reads as reads
-use Rattle.key_shapes.proofs.order.lower.Lts as lts
 
 abbrev Inv-loop : tie.InvT-loop
 Inv-loop a b i₀ i = LowerAt a b i (lower a b)

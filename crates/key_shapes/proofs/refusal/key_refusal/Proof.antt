@@ -1,13 +1,8 @@
-use native.Mathlib.Omega.{arith}
+-- `key_shapes::refusal::key_refusal` meets its contract. One law of specs/ for each return.
 use Rattle.key_shapes.specs.Refusing.{refuses-four, refuses-five, refuses-six, refuses-none}
 use borrow.Author.Needs.{needs}
 use Rattle.key_shapes.proofs.refusal.key_refusal.Statement.{statement}
 use Rattle.key_shapes.proofs.refusal.key_refusal.Tie as tie
-use Rattle.key_shapes.proofs.refusal.key_refusal.Reads as reads
-use Rattle.key_shapes.proofs.refusal.key_refusal.Lts as lts
-use Rattle.key_shapes.proofs.order.good_set.Reads as good-set-reads
-use Rattle.key_shapes.proofs.symbols.good_symbols.Reads as good-symbols-reads
-use Rattle.key_shapes.proofs.validity.all_valid.Reads as all-valid-reads
 
 -- src/refusal.rt:24:9
 good-symbols-requires : tie.Need-good-symbols-requires

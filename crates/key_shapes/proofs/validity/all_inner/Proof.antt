@@ -1,3 +1,4 @@
+-- `key_shapes::validity::all_inner` meets its contract. A scan from the front (`Scan`).
 use borrow.Author.Needs.{needs}
 use native.Mathlib.Omega.{arith}
 use Prim.Native.Nat.{_-_}
@@ -8,9 +9,6 @@ use Rattle.shapes.specs.Scans.{Scan, scan-start, scan-next, scan-stop, scan-end
 use Rattle.key_shapes.specs.Validity.{inner}
 use Rattle.key_shapes.proofs.validity.all_inner.Statement.{statement}
 use Rattle.key_shapes.proofs.validity.all_inner.Tie as tie
-use Rattle.key_shapes.proofs.validity.all_inner.Reads as reads
-use Rattle.key_shapes.proofs.validity.all_inner.Lts as lts
-use Rattle.key_shapes.proofs.validity.is_inner.Reads as is-inner-reads
 
 abbrev Inv-loop : tie.InvT-loop
 Inv-loop p classes i₀ i = Scan 0 (inner (classBy classes)) p i (every (inner (classBy classes)) p)

@@ -1,3 +1,4 @@
+-- `key_shapes::validity::all_valid` meets its contract. A scan of the key paths in place (`PathScan`), each behind the same C and T (`behind`).
 use borrow.Author.Needs.{needs}
 use native.Mathlib.Omega.{arith}
 use Prim.Native.Nat.{_-_}
@@ -7,17 +8,6 @@ use Rattle.shapes.specs.KeyPaths.{PathScan, at-holds, path-scan-next, path-scan
 use Rattle.key_shapes.specs.Validity.{behind, behind-start, all-behind}
 use Rattle.key_shapes.proofs.validity.all_valid.Statement.{statement}
 use Rattle.key_shapes.proofs.validity.all_valid.Tie as tie
-use Rattle.key_shapes.proofs.validity.all_valid.Reads as reads
-use Rattle.key_shapes.proofs.validity.all_valid.Lts as lts
-use Rattle.key_shapes.proofs.validity.both_inner.Reads as both-inner-reads
-use Rattle.key_shapes.proofs.validity.both_valid.Reads as both-valid-reads
-use Rattle.key_shapes.proofs.validity.valid_behind.Reads as valid-behind-reads
-use Rattle.shapes.proofs.bodies.after_path.Reads as after-path-reads
-use Rattle.shapes.proofs.bodies.lead_path.Reads as lead-path-reads
-use Rattle.shapes.proofs.keys.context.Reads as context-reads
-use Rattle.shapes.proofs.keys.count.Reads as count-reads
-use Rattle.shapes.proofs.keys.paths.Reads as paths-reads
-use Rattle.shapes.proofs.keys.target.Reads as target-reads
 
 abbrev Inv-loop : tie.InvT-loop
 Inv-loop body classes front-inner front-valid n rest₀ i₀ rest i = PathScan (behind (classBy classes) front-inner front-valid) (keyIn body .paths) i rest (allValidBy classes (keyIn body))

@@ -1,11 +1,8 @@
-use native.Mathlib.Omega.{arith}
+-- `key_shapes::validity::both_inner` meets its contract. One law of specs/ for each return.
 use Rattle.key_shapes.specs.Validity.{both-not, both-yes}
 use borrow.Author.Needs.{needs}
 use Rattle.key_shapes.proofs.validity.both_inner.Statement.{statement}
 use Rattle.key_shapes.proofs.validity.both_inner.Tie as tie
-use Rattle.key_shapes.proofs.validity.both_inner.Reads as reads
-use Rattle.key_shapes.proofs.validity.both_inner.Lts as lts
-use Rattle.key_shapes.proofs.validity.all_inner.Reads as all-inner-reads
 
 -- src/validity.rt:80:9
 all-inner-requires : tie.Need-all-inner-requires

@@ -1,13 +1,8 @@
-use native.Mathlib.Omega.{arith}
+-- `key_shapes::validity::both_valid` meets its contract. One law of specs/ for each return.
 use Rattle.key_shapes.specs.Validity.{both-behind}
 use borrow.Author.Needs.{needs}
 use Rattle.key_shapes.proofs.validity.both_valid.Statement.{statement}
 use Rattle.key_shapes.proofs.validity.both_valid.Tie as tie
-use Rattle.key_shapes.proofs.validity.both_valid.Reads as reads
-use Rattle.key_shapes.proofs.validity.both_valid.Lts as lts
-use Rattle.key_shapes.proofs.validity.all_inner.Reads as all-inner-reads
-use Rattle.key_shapes.proofs.validity.is_valid.Reads as is-valid-reads
-use Rattle.key_shapes.proofs.validity.valid_behind.Reads as valid-behind-reads
 
 -- src/validity.rt:89:9
 all-inner-requires : tie.Need-all-inner-requires

@@ -1,11 +1,8 @@
-use native.Mathlib.Omega.{arith}
+-- `key_shapes::validity::is_inner` meets its contract. One law of specs/ for each return.
 use Rattle.key_shapes.specs.Validity.{inner-any, inner-text, inner-filler, inner-class}
 use borrow.Author.Needs.{needs}
 use Rattle.key_shapes.proofs.validity.is_inner.Statement.{statement}
 use Rattle.key_shapes.proofs.validity.is_inner.Tie as tie
-use Rattle.key_shapes.proofs.validity.is_inner.Reads as reads
-use Rattle.key_shapes.proofs.validity.is_inner.Lts as lts
-use Rattle.shapes.proofs.fields.wide.Reads as wide-reads
 
 -- src/validity.rt:25:9
 returns : tie.Need-returns

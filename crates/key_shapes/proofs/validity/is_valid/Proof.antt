@@ -1,3 +1,4 @@
+-- `key_shapes::validity::is_valid` meets its contract. The loop looks at each symbol but the last (`ValidAt`).
 use borrow.Author.Needs.{needs}
 use native.Mathlib.Omega.{arith}
 use Prim.Native.Nat.{_-_}
@@ -7,9 +8,6 @@ use Rattle.shapes.specs.Classes.{classBy}
 use Rattle.key_shapes.specs.Validity.{ValidAt, valid-start, valid-next, valid-stop, valid-end}
 use Rattle.key_shapes.proofs.validity.is_valid.Statement.{statement}
 use Rattle.key_shapes.proofs.validity.is_valid.Tie as tie
-use Rattle.key_shapes.proofs.validity.is_valid.Reads as reads
-use Rattle.key_shapes.proofs.validity.is_valid.Lts as lts
-use Rattle.key_shapes.proofs.validity.is_inner.Reads as is-inner-reads
 
 abbrev Inv-loop : tie.InvT-loop
 Inv-loop p classes i₀ i = ValidAt (classBy classes) p i (valid (classBy classes) p)

@@ -1,11 +1,8 @@
-use native.Mathlib.Omega.{arith}
+-- `key_shapes::validity::valid_behind` meets its contract. One law of specs/ for each return.
 use Rattle.key_shapes.specs.Validity.{behind-empty, behind-inner, behind-not}
 use borrow.Author.Needs.{needs}
 use Rattle.key_shapes.proofs.validity.valid_behind.Statement.{statement}
 use Rattle.key_shapes.proofs.validity.valid_behind.Tie as tie
-use Rattle.key_shapes.proofs.validity.valid_behind.Reads as reads
-use Rattle.key_shapes.proofs.validity.valid_behind.Lts as lts
-use Rattle.key_shapes.proofs.validity.is_valid.Reads as is-valid-reads
 
 -- src/validity.rt:69:9
 returns : tie.Need-returns

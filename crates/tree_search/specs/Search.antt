@@ -1,0 +1,1 @@
+-- The search over pairs of equal nodes that the first key path reaches: one law for each return.
