@@ -23,9 +23,10 @@ use Rattle.theory_lines.specs.SameParts.{sameContext, sameSets, sets-eq, eq-set
 use Rattle.theory_lines.specs.Subnodes.{goesOn, further, onlyPath, lastPath}
 use Rattle.theory_lines.specs.Cuts.{endsPath, beforeEnd, startsAny}
 use Rattle.theory_lines.specs.Interactions.{prefixed, interactionTest}
+use Rattle.joins.specs.Joins.{BothNormal}
 use Rattle.joins.specs.Forms.{isBeginning, beginning-rest}
 use Rattle.rule_tests.specs.Walks.{beginning-is}
-use Rattle.rule_tests.specs.Compare.{BothNormal, stop, go-on}
+use Rattle.rule_tests.specs.Compare.{same-sym, stop, go-on}
 use Rattle.rule_tests.specs.Parts.{TwoKeys, LineKey, LineKeys}
 
 -- T goes on behind the new target
@@ -251,17 +252,17 @@ module _ {p k : List ℕ} (c : Cut p k) where
   pub cut-normal : (n : ℕ) {old whole : List ℕ} → old ≡ keyIn p .context → whole ≡ keyIn p .target → BothNormal old (take n whole)
   cut-normal n o w =
       record {
-        front = subst (λ (l : List ℕ). T (normal l)) (sym o) (c .keys .first .contextNormal);
-        back =
+        first = subst (λ (l : List ℕ). T (normal l)) (sym o) (c .keys .first .contextNormal);
+        second =
             normal-left (take n _) (drop n _)
             (subst (λ (l : List ℕ). T (normal l)) (sym w ∙ sym (take-append-drop n _)) (c .keys .first .targetNormal));
       }
 
   module _ {whole end new old : List ℕ} (w : whole ≡ keyIn p .target) (f : end ≡ keyIn k .target) (a : new ≡ keyIn k .context) (o : old ≡ keyIn p .context)
-      {r : Bool} (q : r ≡ same new (join old (take (length whole - length end) whole))) where
+      {r : Bool} (q : r ≡ same (join old (take (length whole - length end) whole)) new) where
     first : same (keyIn k .context) (join (keyIn p .context) (beforeEnd (keyIn p .target) (keyIn k .target))) ≡ r
     unfolding beforeEnd
-    first = sym (q ∙ rw (w, f, a, o))
+    first = sym (q ∙ same-sym (join old (take (length whole - length end) whole)) new ∙ (rw (w, f, a, o)))
 
     pub cut-first : r ≡ true → true ≡ cutContext (keyIn p) (keyIn k)
     unfolding cutContext
@@ -302,11 +303,11 @@ module _ {p k : List ℕ} (c : Cut p k) where
         rw add-one (take-suc (keyIn p .target) n 0 h ∙ ap (λ (s : ℕ). take n (keyIn p .target) ++ (s ∷ [])) d)
 
     pub cut-second : r ≡ false → {s : Bool} → s ≡ startsAny end → not s ≡ false
-        → {b : Bool} → b ≡ same new (join old (take (length whole - length end + 1) whole)) → b ≡ cutContext (keyIn p) (keyIn k)
+        → {b : Bool} → b ≡ same (join old (take (length whole - length end + 1) whole)) new → b ≡ cutContext (keyIn p) (keyIn k)
     unfolding cutContext
     cut-second t e h g =
         let st : startsAny (keyIn k .target) ≡ true = sym (e ∙ ap startsAny f) ∙ not-false _ h in
-        g ∙ rw (first ∙ t, st, sym (more-is st), w, f, a, o)
+        g ∙ same-sym (join old (take (length whole - length end + 1) whole)) new ∙ (rw (first ∙ t, st, sym (more-is st), w, f, a, o))
 
 -- rule 9
 unfoldable pub premisesMeet : Key → Key → Bool
@@ -319,8 +320,8 @@ concludes p r k = sameContext p k && (same (k .target) (p .target ++ r .target) 
 pub normal-parts : {p : List ℕ} → LineKey p → {front back : List ℕ} → front ≡ keyIn p .context → back ≡ keyIn p .target → BothNormal front back
 normal-parts h f b =
     record {
-      front = subst (λ (l : List ℕ). T (normal l)) (sym f) (h .contextNormal);
-      back = subst (λ (l : List ℕ). T (normal l)) (sym b) (h .targetNormal);
+      first = subst (λ (l : List ℕ). T (normal l)) (sym f) (h .contextNormal);
+      second = subst (λ (l : List ℕ). T (normal l)) (sym b) (h .targetNormal);
     }
 
 and-six : (a b c d : Bool) → ((a && (b && c)) && d) ≡ (a && (b && (c && d)))
