@@ -3,24 +3,21 @@ use Prim.Native.Nat.{ℕ, zero, suc, _+_, _-_, _<_, _≤_}
 use mathlib.Core.Path.{_≡_, refl, sym, ap, ap₂, subst, _∙_}
 use mathlib.Core.Logic.{_⊎_, inl, inr}
 use mathlib.Core.Bool.{Bool, true, false, not}
-use mathlib.Core.List.{List, [], _∷_, _++_, map, append-assoc, append-nil}
-use mathlib.Core.Option.{Option, some, none, Option·some-injective, Option·none-ne-some}
+use mathlib.Core.List.{List, [], _∷_, _++_, append-assoc, append-nil}
+use mathlib.Core.Option.{Option, some, Option·some-injective, Option·none-ne-some}
 use native.Mathlib.Numerals.{add-one}
 use native.Mathlib.Omega.{arith}
 use native.Mathlib.Nat.{eq-or-lt-of-le, le-of-suc-le-suc}
-use lib.Dec.{T}
 use lib.ListN.{length, take, drop, getElem?, length-append}
-use borrow.Author.Tests.{not-true, not-false}
 use borrow.Rule.Slice.PartAt.{part-to-end}
-use Rattle.meaning.specs.Limits.{inProof}
-use Rattle.meaning.specs.Lists.{Each, end, also, same}
+use Rattle.meaning.specs.Lists.{end, same}
 use Rattle.meaning.specs.Paths.{Label}
 use Rattle.meaning.specs.Keys.{Key}
 use Rattle.meaning.specs.Rules.{Line, lineKeys, FollowsAt, FollowsBelow, EndsWith}
 use Rattle.meaning.specs.Records.{word, recordLength, recordBody, readKey, keyIn, isSome, readLine, keyBody}
 use Rattle.meaning.specs.Refusals.{Walked, firstOf, walk, lineTests, proofWalked, profileRefusal, questionRefusal, questionIn}
 use Rattle.meaning.specs.Operations.{recordsFrom, Answer, refusedBy, plain, accepted, ProofJudged, unfollowed, faulty, otherEnd, proved, labelsIn, keysIn}
-use Rattle.theory_paths.specs.Good.{GoodLabels, GoodKey}
+use Rattle.theory_paths.specs.Good.{GoodLabels}
 use Rattle.theory_paths.specs.Bools.{same-eq, eq-same, of-true, of-false}
 use Rattle.theory_lines.specs.LineTest.{followsTest}
 use Rattle.theory_records.specs.Bytes.{Bytes, bytes-drop}
@@ -41,6 +38,7 @@ use Rattle.judged.specs.declared.Judged.the-variants.{Sound, Refused}
 use Rattle.rule_tests.specs.Parts.{line-key}
 use Rattle.lines.specs.Premises.{keysFrom, linesFrom, KeyRecords, LineRecord, Earlier, LineBody, line-at, line-none}
 use Rattle.lines.specs.ProfileKeys.{profile-keys-are, profile-key-records}
+use Rattle.lines.specs.ProofLines.{lines-more}
 use Rattle.lines.specs.Following.{still-below, new-did-follow, below-more, told-follows, told-not}
 
 -- "Where an answer is an enum, a definition gives this paper's number and values for each case of the enum": a proof is input 3
@@ -75,9 +73,6 @@ module _ {profile : List ℕ} {labels keys : ℕ} {question classes : List ℕ} 
   part-are =
       ap₂ keysFrom (g .keyCount) (e ∙ ap (λ (n : ℕ). recordsFrom n profile) (g .labelCount)) ∙ profile-keys-are profile
 
-abbrev nextLine : List Line → List ℕ → List Line
-nextLine lines l = lines ++ (readLine (recordBody l) ∷ [])
-
 -- after n lines: the rest of the proof, the walk that is left, and what holds of the lines read
 pub record Sofar (labels : List Label) (keys : List Key) (proof : List ℕ) (n : ℕ) (rest : List ℕ) : Type 0 where
   pub here : rest ≡ recordsFrom n proof
@@ -98,11 +93,6 @@ sofar-start labels keys proof small =
       earlier = record { each = λ i h. absurd (omega arith) };
       follow = λ i h. absurd (omega arith);
     }
-
-pub lines-more : (n : ℕ) (l : List ℕ) → linesFrom (suc n) l ≡ linesFrom n l ++ (readLine (recordBody (recordsFrom n l)) ∷ [])
-unfolding linesFrom recordsFrom
-lines-more zero l = refl
-lines-more (suc n) l = ap (λ (ls : List Line). readLine (recordBody l) ∷ ls) (lines-more n (drop (recordLength l) l))
 
 -- one line, accepted up to 6
 line-record : (labels : List Label) (lines : List Line) (l : List ℕ) → LineAccepted labels lines l → LineRecord l
@@ -134,11 +124,20 @@ walk-extends labels base n l =
     (record { more = []; is = sym (append-nil base) })
     .held
 
-module _ {labels : List Label} {keys : List Key} {proof : List ℕ} {n : ℕ} {rest : List ℕ} (s : Sofar labels keys proof n rest)
-    {classes : List ℕ} (tabled : Tabled labels classes) (some : 0 < length rest)
-    {number : ℕ} (told : number ≡ firstOf (lineTestsBy classes n rest)) where
+-- one line more is there, and was given a number up to 6
+pub record LineJudged (labels : List Label) (keys : List Key) (proof classes : List ℕ) (n : ℕ) (rest : List ℕ) (number : ℕ) : Type 0 where
+  pub sofar : Sofar labels keys proof n rest
+  pub tabled : Tabled labels classes
+  pub isLine : 0 < length rest
+  pub told : number ≡ firstOf (lineTestsBy classes n rest)
+
+module _ {labels : List Label} {keys : List Key} {proof classes : List ℕ} {n : ℕ} {rest : List ℕ} {number : ℕ}
+    (read : LineJudged labels keys proof classes n rest number) where
+  s : Sofar labels keys proof n rest
+  s = read .sofar
+
   judged : number ≡ firstOf (lineTests labels (linesFrom n proof) rest)
-  judged = told ∙ line-agrees tabled rest (s .small) n (linesFrom n proof) (s .lines .counted)
+  judged = read .told ∙ line-agrees (read .tabled) rest (s .small) n (linesFrom n proof) (s .lines .counted)
 
   pub sofar-refused : (question : Key) → (number ≡ 0 → ⊥) → ProofJudged labels keys question (proofWalked labels proof) (checkedAnswer (Refused number n))
   unfolding checkedAnswer
@@ -148,7 +147,8 @@ module _ {labels : List Label} {keys : List Key} {proof : List ℕ} {n : ℕ} {r
       go zero e = absurd (ne e)
       go (suc m) e =
           subst (λ (w : Walked (List Line)). ProofJudged labels keys question w (refusedBy (record { number = number; input = 3; place = n }) []))
-          (sym (walk-stop (lineTests labels) (λ (lines : List Line) (l : List ℕ). lines ++ (readLine (recordBody l) ∷ [])) n m (linesFrom n proof) rest some (sym judged ∙ e)) ∙ s .walked)
+          (sym (walk-stop (lineTests labels) (λ (lines : List Line) (l : List ℕ). lines ++ (readLine (recordBody l) ∷ [])) n m (linesFrom n proof) rest (read .isLine)
+          (sym judged ∙ e)) ∙ s .walked)
           (faulty
           (subst (FollowsBelow labels keys (linesFrom n proof)) (s .lines .counted) (s .follow))
           (omega arith)
@@ -167,7 +167,7 @@ module _ {labels : List Label} {keys : List Key} {proof : List ℕ} {n : ℕ} {r
     step : walk (lineTests labels) (λ (lines : List Line) (l : List ℕ). lines ++ (readLine (recordBody l) ∷ [])) 0 (suc n)
         (linesFrom n proof ++ (readLine (recordBody rest) ∷ [])) (drop (recordLength rest) rest) ≡ proofWalked labels proof
     step =
-        sym (walk-step (lineTests labels) (λ (lines : List Line) (l : List ℕ). lines ++ (readLine (recordBody l) ∷ [])) n (linesFrom n proof) rest some
+        sym (walk-step (lineTests labels) (λ (lines : List Line) (l : List ℕ). lines ++ (readLine (recordBody l) ∷ [])) n (linesFrom n proof) rest (read .isLine)
         (sym judged ∙ zero-number) (omega (arith, its .isWhole .long)))
         ∙ s .walked
 

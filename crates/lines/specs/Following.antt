@@ -1,14 +1,13 @@
 -- Lines that follow, when a list of lines grows at its end.
-use Prim.Native.Nat.{ℕ, zero, suc, _+_, _-_, _<_, _≤_}
-use mathlib.Core.Path.{_≡_, refl, sym, ap, ap₂, subst, _∙_}
+use Prim.Native.Nat.{ℕ, zero, suc, _<_, _≤_}
+use mathlib.Core.Path.{_≡_, refl, sym, subst, _∙_}
 use mathlib.Core.Logic.{_⊎_, inl, inr}
 use mathlib.Core.Bool.{Bool, true, false, not}
-use mathlib.Core.List.{List, [], _∷_, _++_, map, append-assoc}
-use mathlib.Core.Option.{Option, some, none, Option·some-injective}
+use mathlib.Core.List.{List, [], _∷_, _++_}
+use mathlib.Core.Option.{some, Option·some-injective}
 use native.Mathlib.Omega.{arith}
 use native.Mathlib.Nat.{eq-or-lt-of-le, le-of-suc-le-suc}
-use lib.Dec.{T}
-use lib.ListN.{length, take, drop, getElem?, length-append}
+use lib.ListN.{length, getElem?}
 use lib.Seq.{take-append-le, take-append-seam}
 use borrow.Author.Tests.{not-true, not-false}
 use Rattle.meaning.specs.Limits.{inProof}

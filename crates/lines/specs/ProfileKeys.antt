@@ -1,15 +1,14 @@
 -- The keys of an accepted profile stand behind its labels, one record each.
-use Prim.Native.Nat.{ℕ, zero, suc, _+_, _-_, _<_, _≤_}
+use Prim.Native.Nat.{ℕ, zero, suc, _+_, _<_}
 use mathlib.Core.Path.{_≡_, refl, sym, ap, subst, _∙_}
 use mathlib.Core.Logic.{_⊎_, inl, inr, ⊎-elim}
 use mathlib.Core.List.{List, [], _∷_, _++_}
 use native.Mathlib.Omega.{arith}
 use native.Mathlib.Nat.{eq-or-lt-of-le, le-of-suc-le-suc}
 use lib.ListN.{length, drop}
-use Rattle.meaning.specs.Paths.{Label}
 use Rattle.meaning.specs.Keys.{Key}
 use Rattle.meaning.specs.Records.{recordLength, recordBody, readLabel, keyIn}
-use Rattle.meaning.specs.Refusals.{Profile, noProfile, firstOf, profileTests, profileNext, profileWalked, profileIn, profileRefusal}
+use Rattle.meaning.specs.Refusals.{Profile, noProfile, firstOf, profileTests, profileNext, profileWalked, profileIn}
 use Rattle.meaning.specs.Operations.{recordsFrom, labelsIn, keysIn}
 use Rattle.theory_records.specs.Walks.{Stopped, walk-keeps}
 use Rattle.theory_records.specs.Encodings.{ends-key}

@@ -1,8 +1,8 @@
 -- Each rule as a chain of tests: a law for each return of its function.
 use Prim.Native.Nat.{ℕ}
-use mathlib.Core.Path.{_≡_, refl, sym, ap, ap₂, subst, _∙_}
-use mathlib.Core.Bool.{Bool, true, false, _&&_, _||_, not}
-use mathlib.Core.List.{List, [], _∷_, _++_}
+use mathlib.Core.Path.{_≡_, refl, ap, ap₂, _∙_}
+use mathlib.Core.Bool.{Bool, true, false, _&&_, not}
+use mathlib.Core.List.{List, _++_}
 use Rattle.meaning.specs.Lists.{any, isEmpty, same}
 use Rattle.meaning.specs.Paths.{member, simple, join}
 use Rattle.meaning.specs.Keys.{Key}
@@ -11,7 +11,7 @@ use Rattle.theory_lines.specs.SameParts.{sameContext, sameTarget, sameSets, hol
 use Rattle.theory_lines.specs.Subnodes.{goesOn, subnodesTest, subnodesEpsilonTest}
 use Rattle.theory_lines.specs.Cuts.{endsPath, contextTargetTest}
 use Rattle.theory_lines.specs.Interactions.{prefixed, interactionTest}
-use Rattle.rule_tests.specs.Compare.{stop, go-on, and-three, test-true}
+use Rattle.rule_tests.specs.Compare.{same-sym, stop, go-on, and-three, test-true}
 use Rattle.rule_tests.specs.Parts.{LineKeys}
 use Rattle.rule_tests.specs.RuleLaws.{Cut, longerOnly, longerLast, cutContext, premisesMeet, concludes, interaction-parts}
 
@@ -141,11 +141,11 @@ module _ (p r : Key) {step : List ℕ} (s : step ≡ r .target) {b : Bool} (e : 
         (stop (same (r .context) (join (p .context) (p .target))) (f ∙ ap (λ (l : List ℕ). sameSets (p .paths) (prefixed l (r .paths))) s) u)
 
     pub meet-rest : not g ≡ false → {joined front back : List ℕ} → joined ≡ r .context → front ≡ p .context → back ≡ p .target
-        → {h : Bool} → h ≡ same joined (join front back) → h ≡ premisesMeet p r
+        → {h : Bool} → h ≡ same (join front back) joined → h ≡ premisesMeet p r
     unfolding premisesMeet
-    meet-rest u j a c q =
+    meet-rest u {joined} {front} {back} j a c q =
         go-on (e ∙ ap simple s) t
-        (go-on (f ∙ ap (λ (l : List ℕ). sameSets (p .paths) (prefixed l (r .paths))) s) u (q ∙ (rw (j, a, c))))
+        (go-on (f ∙ ap (λ (l : List ℕ). sameSets (p .paths) (prefixed l (r .paths))) s) u (q ∙ same-sym (join front back) joined ∙ (rw (j, a, c))))
 
 module _ (p r k : Key) where
   module _ {b : Bool} (e : b ≡ sameContext p k) where

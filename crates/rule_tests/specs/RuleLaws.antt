@@ -6,26 +6,27 @@ use mathlib.Core.Bool.{Bool, true, false, _&&_, _||_, not}
 use mathlib.Core.List.{List, [], _∷_, _++_}
 use native.Mathlib.Numerals.{add-one}
 use native.Mathlib.Omega.{arith}
-use lib.Dec.{T, leb, eqb, eqb·suc-zero, leb→le}
-use lib.ListN.{length, getD, take, drop, take-append-drop, length-append, length-take, length-drop}
+use lib.Dec.{T, leb, eqb, eqb·suc-zero}
+use lib.ListN.{length, getD, take, drop, take-append-drop, length-append, length-take}
 use lib.Seq.{take-suc, getD-drop}
-use borrow.Author.Tests.{not-true, not-false, le-leb, lt-leb, leb-true, eq-eqb, ne-eqb}
+use borrow.Author.Tests.{not-true, not-false, le-leb, lt-leb, leb-true}
 use borrow.Rule.Slice.PartAt.{part-to-end}
-use Rattle.meaning.specs.Lists.{isEmpty, same}
+use Rattle.meaning.specs.Lists.{same}
 use Rattle.meaning.specs.Paths.{normal, simple, join}
 use Rattle.meaning.specs.Keys.{Key}
-use Rattle.meaning.specs.Records.{readKey, keyIn, isSome}
+use Rattle.meaning.specs.Records.{keyIn}
 use Rattle.meaning.specs.Rules.{withEmpty}
-use Rattle.theory_paths.specs.Bools.{bool-eq, same-eq, eq-same, and-left, and-right, both, of-true, true-of, false-of, of-false}
+use Rattle.theory_paths.specs.Bools.{bool-eq, same-eq, eq-same, and-left, and-right, both, of-true, true-of, false-of}
 use Rattle.theory_paths.specs.Normal.{normal-left}
 use Rattle.theory_lines.specs.Beginnings.{begins, begins-split}
-use Rattle.theory_lines.specs.SameParts.{sameContext, sameTarget, sameSets, sets-eq, eq-sets}
+use Rattle.theory_lines.specs.SameParts.{sameContext, sameSets, sets-eq, eq-sets}
 use Rattle.theory_lines.specs.Subnodes.{goesOn, further, onlyPath, lastPath}
 use Rattle.theory_lines.specs.Cuts.{endsPath, beforeEnd, startsAny}
 use Rattle.theory_lines.specs.Interactions.{prefixed, interactionTest}
-use Rattle.paths.specs.Forms.{isBeginning, beginning-rest}
+use Rattle.joins.specs.Joins.{BothNormal}
+use Rattle.joins.specs.Forms.{isBeginning, beginning-rest}
 use Rattle.rule_tests.specs.Walks.{beginning-is}
-use Rattle.rule_tests.specs.Compare.{BothNormal, stop, go-on, and-three, test-true}
+use Rattle.rule_tests.specs.Compare.{same-sym, stop, go-on}
 use Rattle.rule_tests.specs.Parts.{TwoKeys, LineKey, LineKeys}
 
 -- T goes on behind the new target
@@ -151,10 +152,6 @@ two-paths : (y : ℕ) (r : List ℕ) → [] ∷ (y ∷ r) ∷ [] ≡ withEmpty (
 unfolding withEmpty
 two-paths y r = refl
 
-empty-eq : (l : List ℕ) → length l ≡ 0 → l ≡ []
-empty-eq [] e = refl
-empty-eq (x ∷ l) e = absurd (omega arith)
-
 module _ (b : Key) {n : ℕ} (e : n ≡ length (b .paths)) where
   pub with-empty-one : n ≡ 1 → {l : List ℕ} → l ≡ getD (b .paths) 0 [] → eqb (length l) 0 ≡ sameSets (b .paths) (withEmpty (lastPath b))
   unfolding lastPath
@@ -255,17 +252,17 @@ module _ {p k : List ℕ} (c : Cut p k) where
   pub cut-normal : (n : ℕ) {old whole : List ℕ} → old ≡ keyIn p .context → whole ≡ keyIn p .target → BothNormal old (take n whole)
   cut-normal n o w =
       record {
-        front = subst (λ (l : List ℕ). T (normal l)) (sym o) (c .keys .first .contextNormal);
-        back =
+        first = subst (λ (l : List ℕ). T (normal l)) (sym o) (c .keys .first .contextNormal);
+        second =
             normal-left (take n _) (drop n _)
             (subst (λ (l : List ℕ). T (normal l)) (sym w ∙ sym (take-append-drop n _)) (c .keys .first .targetNormal));
       }
 
   module _ {whole end new old : List ℕ} (w : whole ≡ keyIn p .target) (f : end ≡ keyIn k .target) (a : new ≡ keyIn k .context) (o : old ≡ keyIn p .context)
-      {r : Bool} (q : r ≡ same new (join old (take (length whole - length end) whole))) where
+      {r : Bool} (q : r ≡ same (join old (take (length whole - length end) whole)) new) where
     first : same (keyIn k .context) (join (keyIn p .context) (beforeEnd (keyIn p .target) (keyIn k .target))) ≡ r
     unfolding beforeEnd
-    first = sym (q ∙ rw (w, f, a, o))
+    first = sym (q ∙ same-sym (join old (take (length whole - length end) whole)) new ∙ (rw (w, f, a, o)))
 
     pub cut-first : r ≡ true → true ≡ cutContext (keyIn p) (keyIn k)
     unfolding cutContext
@@ -306,22 +303,11 @@ module _ {p k : List ℕ} (c : Cut p k) where
         rw add-one (take-suc (keyIn p .target) n 0 h ∙ ap (λ (s : ℕ). take n (keyIn p .target) ++ (s ∷ [])) d)
 
     pub cut-second : r ≡ false → {s : Bool} → s ≡ startsAny end → not s ≡ false
-        → {b : Bool} → b ≡ same new (join old (take (length whole - length end + 1) whole)) → b ≡ cutContext (keyIn p) (keyIn k)
+        → {b : Bool} → b ≡ same (join old (take (length whole - length end + 1) whole)) new → b ≡ cutContext (keyIn p) (keyIn k)
     unfolding cutContext
     cut-second t e h g =
         let st : startsAny (keyIn k .target) ≡ true = sym (e ∙ ap startsAny f) ∙ not-false _ h in
-        g ∙ rw (first ∙ t, st, sym (more-is st), w, f, a, o)
-
-pub starts-empty : (l : List ℕ) → length l ≡ 0 → false ≡ startsAny l
-unfolding startsAny
-starts-empty [] e = refl
-starts-empty (x ∷ l) e = absurd (omega arith)
-
-pub starts-first : (l : List ℕ) → (length l ≡ 0 → ⊥) → eqb (getD l 0 0) 0 ≡ startsAny l
-unfolding startsAny
-starts-first [] h = absurd (h refl)
-starts-first (zero ∷ l) h = refl
-starts-first (suc s ∷ l) h = eqb·suc-zero s
+        g ∙ same-sym (join old (take (length whole - length end + 1) whole)) new ∙ (rw (first ∙ t, st, sym (more-is st), w, f, a, o))
 
 -- rule 9
 unfoldable pub premisesMeet : Key → Key → Bool
@@ -334,8 +320,8 @@ concludes p r k = sameContext p k && (same (k .target) (p .target ++ r .target) 
 pub normal-parts : {p : List ℕ} → LineKey p → {front back : List ℕ} → front ≡ keyIn p .context → back ≡ keyIn p .target → BothNormal front back
 normal-parts h f b =
     record {
-      front = subst (λ (l : List ℕ). T (normal l)) (sym f) (h .contextNormal);
-      back = subst (λ (l : List ℕ). T (normal l)) (sym b) (h .targetNormal);
+      first = subst (λ (l : List ℕ). T (normal l)) (sym f) (h .contextNormal);
+      second = subst (λ (l : List ℕ). T (normal l)) (sym b) (h .targetNormal);
     }
 
 and-six : (a b c d : Bool) → ((a && (b && c)) && d) ≡ (a && (b && (c && d)))

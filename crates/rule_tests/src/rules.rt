@@ -1,16 +1,16 @@
 // Rules 2 to 9 (document 01, "Rules of inference"), each on the bodies of its premises and of the new key.
-use crate::compare::ANY_PATH;
 use crate::compare::is_both;
-use crate::compare::is_joined;
 use crate::sets::all_among;
 use crate::sets::all_begin;
 use crate::sets::holds_empty;
 use crate::sets::is_prefixed;
 use crate::sets::same_sets;
-use paths::begins;
+use joins::begins;
+use joins::join_is;
+use joins::same;
+use joins::simple;
+use paths::ANY_PATH;
 use paths::included;
-use paths::same;
-use paths::simple;
 use shapes::keys::context;
 use shapes::keys::count;
 use shapes::keys::path;
@@ -201,14 +201,14 @@ fn cut_context(p: &[u8], k: &[u8]) -> bool
     let new = context(k);
     let old = context(p);
     let cut = whole.len() - end.len();
-    if is_joined(new, old, &whole[..cut]) {
+    if join_is(old, &whole[..cut], new) {
         return true;
     }
     if !starts_any(end) {
         return false;
     }
     let more = cut + 1;
-    is_joined(new, old, &whole[..more])
+    join_is(old, &whole[..more], new)
 }
 
 // "7. context target: X and Y exist with X.Y = T; gives (C.X, (Y, S)). A single `_*` may split into two."
@@ -299,7 +299,7 @@ fn premises_meet(p: &[u8], r: &[u8]) -> bool
     let joined = context(r);
     let front = context(p);
     let back = target(p);
-    is_joined(joined, front, back)
+    join_is(front, back, joined)
 }
 
 // "gives (C, (X.P, S2))"

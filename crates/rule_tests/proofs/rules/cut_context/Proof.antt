@@ -6,7 +6,7 @@ use Rattle.rule_tests.proofs.rules.cut_context.Statement.{statement}
 use Rattle.rule_tests.proofs.rules.cut_context.Tie as tie
 use Rattle.rule_tests.proofs.rules.cut_context.Reads as reads
 use Rattle.rule_tests.proofs.rules.cut_context.Lts as lts
-use Rattle.rule_tests.proofs.compare.is_joined.Reads as is-joined-reads
+use Rattle.joins.proofs.join_is.Reads as join-is-reads
 use Rattle.rule_tests.proofs.rules.starts_any.Reads as starts-any-reads
 use Rattle.shapes.proofs.keys.context.Reads as context-reads
 use Rattle.shapes.proofs.keys.target.Reads as target-reads
@@ -32,12 +32,12 @@ sub-cut : tie.Need-sub-cut
 sub-cut c = search (cut-sub)
 
 -- src/rules.rt:204:28
-slice-aggregate-is-joined : tie.Need-slice-aggregate-is-joined
-slice-aggregate-is-joined c = simp length-take (omega arith)
+slice-aggregate-join-is : tie.Need-slice-aggregate-join-is
+slice-aggregate-join-is c = simp length-take (omega arith)
 
 -- src/rules.rt:204:8
-is-joined-requires : tie.Need-is-joined-requires
-is-joined-requires c κs = search (cut-normal)
+join-is-requires : tie.Need-join-is-requires
+join-is-requires c κs = search (cut-normal)
 
 -- src/rules.rt:205:9
 returns : tie.Need-returns
@@ -56,12 +56,12 @@ add-more : tie.Need-add-more
 add-more c = search needs
 
 -- src/rules.rt:211:25
-slice-aggregate-is-joined-2 : tie.Need-slice-aggregate-is-joined-2
-slice-aggregate-is-joined-2 c = search (cut-within)
+slice-aggregate-join-is-2 : tie.Need-slice-aggregate-join-is-2
+slice-aggregate-join-is-2 c = search (cut-within)
 
 -- src/rules.rt:211:5
-is-joined-requires-2 : tie.Need-is-joined-requires-2
-is-joined-requires-2 c κs = search (cut-normal)
+join-is-requires-2 : tie.Need-join-is-requires-2
+join-is-requires-2 c κs = search (cut-normal)
 
 -- src/rules.rt:195:1
 returns-3 : tie.Need-returns-3
@@ -76,12 +76,12 @@ cut-context-spec =
     context-requires
     context-requires-2
     sub-cut
-    slice-aggregate-is-joined
-    is-joined-requires
+    slice-aggregate-join-is
+    join-is-requires
     returns
     starts-any-requires
     returns-2
     add-more
-    slice-aggregate-is-joined-2
-    is-joined-requires-2
+    slice-aggregate-join-is-2
+    join-is-requires-2
     returns-3)

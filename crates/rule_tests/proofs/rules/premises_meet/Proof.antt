@@ -5,8 +5,8 @@ use Rattle.rule_tests.proofs.rules.premises_meet.Statement.{statement}
 use Rattle.rule_tests.proofs.rules.premises_meet.Tie as tie
 use Rattle.rule_tests.proofs.rules.premises_meet.Reads as reads
 use Rattle.rule_tests.proofs.rules.premises_meet.Lts as lts
-use Rattle.paths.proofs.simple.Reads as simple-reads
-use Rattle.rule_tests.proofs.compare.is_joined.Reads as is-joined-reads
+use Rattle.joins.proofs.simple.Reads as simple-reads
+use Rattle.joins.proofs.join_is.Reads as join-is-reads
 use Rattle.rule_tests.proofs.sets.is_prefixed.Reads as is-prefixed-reads
 use Rattle.shapes.proofs.keys.context.Reads as context-reads
 use Rattle.shapes.proofs.keys.target.Reads as target-reads
@@ -44,8 +44,8 @@ target-requires-2 : tie.Need-target-requires-2
 target-requires-2 c κs = search needs
 
 -- src/rules.rt:302:5
-is-joined-requires : tie.Need-is-joined-requires
-is-joined-requires c κs = search (normal-parts)
+join-is-requires : tie.Need-join-is-requires
+join-is-requires c κs = search (normal-parts)
 
 -- src/rules.rt:288:1
 returns-3 : tie.Need-returns-3
@@ -63,5 +63,5 @@ premises-meet-spec =
     context-requires
     context-requires-2
     target-requires-2
-    is-joined-requires
+    join-is-requires
     returns-3)

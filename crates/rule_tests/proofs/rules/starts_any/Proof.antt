@@ -1,4 +1,4 @@
-use Rattle.rule_tests.specs.RuleLaws.{starts-empty, starts-first}
+use Rattle.rule_tests.specs.Compare.{starts-empty, starts-first}
 use borrow.Author.Needs.{needs}
 use Rattle.rule_tests.proofs.rules.starts_any.Statement.{statement}
 use Rattle.rule_tests.proofs.rules.starts_any.Tie as tie
