@@ -1,7 +1,8 @@
 // 5: "key paths: none, too many, out of order, repeated".
-use shapes::bodies::{after_path, lead_path};
-use shapes::keys::{count, paths};
-
+use shapes::bodies::after_path;
+use shapes::bodies::lead_path;
+use shapes::keys::count;
+use shapes::keys::paths;
 ghost use mathlib.Core.Path.{_≡_};
 ghost use mathlib.Core.Bool.{true};
 ghost use mathlib.Core.List.{List};

@@ -1,8 +1,11 @@
 // 4: "symbol not 0, 1 or declared; doubled 0; path too long; 0 in a key path".
-use shapes::bodies::{after_path, lead_path};
+use shapes::bodies::after_path;
+use shapes::bodies::lead_path;
 use shapes::fields::wide;
-use shapes::keys::{context, count, paths, target};
-
+use shapes::keys::context;
+use shapes::keys::count;
+use shapes::keys::paths;
+use shapes::keys::target;
 ghost use mathlib.Core.Path.{_≡_};
 ghost use mathlib.Core.Bool.{true, _&&_};
 ghost use mathlib.Core.List.{List};
@@ -16,6 +19,7 @@ ghost use Rattle.key_shapes.specs.Symbols.{limitsOf, goodKeyPath};
 
 // "Symbol 0 in a path is the any-path"; "Label 1 is text."
 pub const ANY_PATH: u8 = 0;
+
 pub const TEXT: u8 = 1;
 // A label that the profile does not declare.
 pub const UNDECLARED: u8 = 0;

@@ -1,6 +1,6 @@
 // The fields of a node record: "length (2), kind (2), parent (2), label (1), value (2)".
-use shapes::fields::{wide, word};
-
+use shapes::fields::wide;
+use shapes::fields::word;
 ghost use mathlib.Core.Path.{_≡_};
 ghost use Prim.Native.Nat.{_+_, _*_, _<_, _≤_};
 ghost use lib.ListN.{length, getD};
