@@ -1,10 +1,10 @@
--- What the searches answer: a step that fires, or that nothing in the range searched does.
+-- What the searches answer: a step that fires, or that nothing in the range searched does. The inner loops: nodes, then spots of a branch.
 use Prim.Native.Nat.{ℕ, _+_, _-_, _≤_, _<_}
 use mathlib.Core.Path.{_≡_, refl, sym, ap, subst, _∙_}
 use mathlib.Core.Bool.{Bool, true, false, _&&_, not}
 use mathlib.Core.List.{List}
 use native.Mathlib.Omega.{arith}
-use lib.Dec.{T, ltb, leb, lt→ltb, le→leb}
+use lib.Dec.{T, lt→ltb, le→leb}
 use lib.ListN.{length, take, drop}
 use borrow.Author.Count.{below-more}
 use borrow.Author.Tests.{not-true, not-false}
@@ -13,7 +13,7 @@ use Rattle.meaning.specs.Paths.{member}
 use Rattle.meaning.specs.Keys.{Key}
 use Rattle.meaning.specs.Records.{readKey, keyIn, isSome}
 use Rattle.meaning.specs.Pattern.{tOf}
-use Rattle.theory_paths.specs.Bools.{true-of, of-true, false-of, of-false, and-left, and-right, both}
+use Rattle.theory_paths.specs.Bools.{of-true, false-of, of-false, and-left, and-right, both}
 use Rattle.theory_derive.specs.Spots.{lineOf, part, lands, firesBy}
 use Rattle.theory_derive.specs.Lines.{line-length}
 use Rattle.pattern_lines.specs.Drawn.{Drawn, HasLine, lineIn, drawn-has, drawn-is}

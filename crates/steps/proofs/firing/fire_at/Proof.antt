@@ -1,3 +1,4 @@
+-- `steps::firing::fire_at` meets its contract: the laws of specs/Firing. Assumes nothing.
 use Prim.Native.Nat.{_+_, _-_}
 use native.Mathlib.Omega.{arith}
 use borrow.Author.Needs.{needs}
@@ -5,10 +6,6 @@ use Rattle.meaning.specs.Records.{keyIn}
 use Rattle.steps.specs.Firing.{found, missed, Climbing, spot-small, lands-none, climbing-start, climbing-part, climbing-hit, climbing-next, climbing-done}
 use Rattle.steps.proofs.firing.fire_at.Statement.{statement}
 use Rattle.steps.proofs.firing.fire_at.Tie as tie
-use Rattle.steps.proofs.firing.fire_at.Reads as reads
-use Rattle.steps.proofs.firing.fire_at.Lts as lts
-use Rattle.landings.proofs.all_land.Reads as all-land-reads
-use Rattle.steps.proofs.firing.fires_to.Reads as fires-to-reads
 
 abbrev Inv-loop : tie.InvT-loop
 Inv-loop asked lines key number j k u i₀ i = Climbing (keyIn asked) (keyIn key) u j k i

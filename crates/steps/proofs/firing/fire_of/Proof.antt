@@ -1,3 +1,4 @@
+-- `steps::firing::fire_of` meets its contract: the laws of specs/Firing, specs/Ranges. Assumes nothing.
 use Prim.Native.Nat.{_-_}
 use native.Mathlib.Omega.{arith}
 use borrow.Author.Needs.{needs}
@@ -6,11 +7,6 @@ use Rattle.steps.specs.Firing.{found, missed, sought-at, sought-none}
 use Rattle.steps.specs.Ranges.{Sweeping, ready-small, sweeping-start, sweeping-branch, sweeping-next, sweeping-done}
 use Rattle.steps.proofs.firing.fire_of.Statement.{statement}
 use Rattle.steps.proofs.firing.fire_of.Tie as tie
-use Rattle.steps.proofs.firing.fire_of.Reads as reads
-use Rattle.steps.proofs.firing.fire_of.Lts as lts
-use Rattle.landings.proofs.chain_end.Reads as chain-end-reads
-use Rattle.shapes.proofs.keys.count.Reads as count-reads
-use Rattle.steps.proofs.firing.fire_on.Reads as fire-on-reads
 
 abbrev Inv-loop : tie.InvT-loop
 Inv-loop asked lines key number u below n from₀ j₀ from j = Sweeping (keyIn asked) (keyIn key) u below n j from

@@ -1,3 +1,4 @@
+-- `steps::firing::fire_on` meets its contract: the laws of specs/Firing. Assumes nothing.
 use Prim.Native.Nat.{_+_, _-_}
 use native.Mathlib.Omega.{arith}
 use borrow.Author.Needs.{needs}
@@ -5,10 +6,6 @@ use Rattle.meaning.specs.Records.{keyIn}
 use Rattle.steps.specs.Firing.{found, missed, sought-at, sought-none, Trying, branch-has, trying-start, trying-spot, trying-next, trying-done}
 use Rattle.steps.proofs.firing.fire_on.Statement.{statement}
 use Rattle.steps.proofs.firing.fire_on.Tie as tie
-use Rattle.steps.proofs.firing.fire_on.Reads as reads
-use Rattle.steps.proofs.firing.fire_on.Lts as lts
-use Rattle.pattern_lines.proofs.line.Reads as line-reads
-use Rattle.steps.proofs.firing.fire_at.Reads as fire-at-reads
 
 abbrev Inv-loop : tie.InvT-loop
 Inv-loop asked lines key number j from u end k₀ k = Trying (keyIn asked) (keyIn key) u j from end k

@@ -1,3 +1,4 @@
+-- `steps::firing::fires_to` meets its contract: the laws of specs/Firing. Assumes nothing.
 use mathlib.Core.Path.{sym}
 use native.Mathlib.Omega.{arith}
 use lib.Seq.{length-take-le}
@@ -5,12 +6,6 @@ use Rattle.steps.specs.Firing.{part-within, target-not, context-last}
 use borrow.Author.Needs.{needs}
 use Rattle.steps.proofs.firing.fires_to.Statement.{statement}
 use Rattle.steps.proofs.firing.fires_to.Tie as tie
-use Rattle.steps.proofs.firing.fires_to.Reads as reads
-use Rattle.steps.proofs.firing.fires_to.Lts as lts
-use Rattle.paths.proofs.member.Reads as member-reads
-use Rattle.pattern_lines.proofs.line.Reads as line-reads
-use Rattle.shapes.proofs.keys.context.Reads as context-reads
-use Rattle.shapes.proofs.keys.target.Reads as target-reads
 
 -- src/firing.rt:38:9
 line-requires : tie.Need-line-requires
