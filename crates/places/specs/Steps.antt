@@ -1,10 +1,12 @@
--- Stepping from record to record: a law for each return of the walk.
-use Prim.Native.Nat.{ℕ, zero, suc, _+_, _*_, _-_, _<_, _≤_}
+-- The place behind a record, and stepping from record to record: a law for each return of the code.
+use Prim.Native.Nat.{ℕ, zero, suc, _+_, _-_, _<_, _≤_, min}
 use mathlib.Core.Path.{_≡_, refl, sym, ap, _∙_}
 use mathlib.Core.List.{List, [], _∷_}
+use native.Mathlib.Nat.{zero-min, suc-min-suc}
 use native.Mathlib.Numerals.{sub-one}
 use native.Mathlib.Omega.{arith}
-use lib.ListN.{length, getD, take, drop, drop-of-length-le}
+use lib.ListN.{length, getD, take, drop, drop-of-length-le, length-drop}
+use lib.Seq.{drop-drop, drop-nil}
 use borrow.Rule.Slice.PartAt.{part-to-end}
 use Rattle.meaning.specs.Records.{word, recordLength}
 use Rattle.meaning.specs.Operations.{recordsFrom}
@@ -24,42 +26,71 @@ pub length-two : (l : List ℕ) {r : ℕ} → r ≡ word l 0 → r ≡ recordLen
 unfolding recordLength
 length-two l h = h
 
-none-after : (n : ℕ) → [] ≡ recordsFrom n []
-unfolding recordsFrom recordLength word
-none-after zero = refl
-none-after (suc n) = none-after n
+-- The place behind the record that stands at a place of an input: so many bytes further as its length says, and at most at the end
+unfoldable pub placeAfter : List ℕ → ℕ → ℕ
+placeAfter s at = at + min (recordLength (drop at s)) (length (drop at s))
 
--- So many records are left to pass; w is what stands behind them
-pub record Steps (left : ℕ) (rest w : List ℕ) : Type 0 where
-  pub here : recordsFrom left rest ≡ w
+-- No more is passed by a length that says more than there is
+drop-at-most : (n : ℕ) (l : List ℕ) → drop (min n (length l)) l ≡ drop n l
+drop-at-most zero l = ap (λ (k : ℕ). drop k l) (zero-min (length l))
+drop-at-most (suc n) [] = drop-nil (min (suc n) (length {A = ℕ} []))
+drop-at-most (suc n) (x ∷ l) = ap (λ (k : ℕ). drop k (x ∷ l)) (suc-min-suc n (length l)) ∙ drop-at-most n l
 
-module _ {left : ℕ} {rest w : List ℕ} (s : Steps left rest w) where
-  pub steps-done : left ≤ 0 → rest ≡ w
+module _ (s : List ℕ) (at : ℕ) where
+  pub after-end : length s ≤ at → at ≡ placeAfter s at
+  unfolding placeAfter
+  after-end h = omega (arith, length-drop at s)
+
+  module _ {whole : ℕ} (said : whole ≡ recordLength (take (length s - at) (drop at s))) where
+    is : whole ≡ recordLength (drop at s)
+    is = said ∙ ap recordLength (part-to-end s at)
+
+    pub after-past : at < length s → length s - at < whole → length s ≡ placeAfter s at
+    unfolding placeAfter
+    after-past h past = omega (arith, length-drop at s, is)
+
+    pub after-next : at < length s → whole ≤ length s - at → at + whole ≡ placeAfter s at
+    unfolding placeAfter
+    after-next h fits = omega (arith, length-drop at s, is)
+
+  after-within : at ≤ length s → placeAfter s at ≤ length s
+  unfolding placeAfter
+  after-within h = omega (arith, length-drop at s)
+
+  after-drops : drop (placeAfter s at) s ≡ drop (recordLength (drop at s)) (drop at s)
+  unfolding placeAfter
+  after-drops = sym (drop-drop _ at s) ∙ drop-at-most (recordLength (drop at s)) (drop at s)
+
+-- So many records are left to pass from this place of the input; w is what stands behind them
+pub record Steps (left at : ℕ) (input w : List ℕ) : Type 0 where
+  pub here : recordsFrom left (drop at input) ≡ w
+  pub within : at ≤ length input
+
+pub steps-start : (n : ℕ) (input : List ℕ) → Steps n 0 input (recordsFrom n input)
+steps-start n input = record { here = refl; within = omega arith }
+
+stays : (n : ℕ) (l : List ℕ) → drop (recordLength l) l ≡ l → l ≡ recordsFrom n l
+unfolding recordsFrom
+stays zero l e = refl
+stays (suc n) l e = rw e (stays n l e)
+
+module _ {left at : ℕ} {input w : List ℕ} (s : Steps left at input w) where
+  pub steps-done : left ≤ 0 → take (length input - at) (drop at input) ≡ w
   unfolding recordsFrom
-  steps-done h = let e : left ≡ 0 = omega arith in (rw e at (s .here))
+  steps-done h = let e : left ≡ 0 = omega arith in part-to-end input at ∙ (rw e at (s .here))
 
-  stays : (n : ℕ) → recordLength rest ≡ 0 → rest ≡ recordsFrom n rest
-  unfolding recordsFrom
-  stays zero e = refl
-  stays (suc n) e = rw e (stays n e)
+  module _ {after : ℕ} (a : after ≡ placeAfter input at) where
+    -- A step that does not move: no record passes it
+    pub steps-stay : after ≡ at → take (length input - at) (drop at input) ≡ w
+    steps-stay e =
+        part-to-end input at
+        ∙ stays left (drop at input) (sym (after-drops input at) ∙ ap (λ (k : ℕ). drop k input) (sym a ∙ e))
+        ∙ s .here
 
-  pub steps-stay : {step : ℕ} → step ≡ recordLength rest → step ≡ 0 → rest ≡ w
-  steps-stay e z = stays left (sym e ∙ z) ∙ s .here
-
-  passed : (n : ℕ) → 0 < n → drop (recordLength rest) rest ≡ [] → [] ≡ recordsFrom n rest
-  unfolding recordsFrom
-  passed zero h e = absurd (omega arith)
-  passed (suc n) h e = rw e (none-after n)
-
-  pub steps-past : 0 < left → {step : ℕ} → step ≡ recordLength rest → length rest ≤ step → take (length rest - length rest) (drop (length rest) rest) ≡ w
-  steps-past h {step} e past =
-      part-to-end rest (length rest) ∙ drop-of-length-le rest {i = length rest} (omega arith)
-      ∙ passed left h (drop-of-length-le rest {i = recordLength rest} (omega arith)) ∙ s .here
-
-  pub steps-next : 0 < left → {step : ℕ} → step ≡ recordLength rest → {next : List ℕ} → next ≡ take (length rest - step) (drop step rest) → Steps (left - 1) next w
-  unfolding recordsFrom
-  steps-next h {step} e {next} n = go left h (s .here)
-    where
-      go : (m : ℕ) → 0 < m → recordsFrom m rest ≡ w → Steps (m - 1) next w
-      go zero h t = absurd (omega arith)
-      go (suc m) h t = record { here = rw (n, part-to-end rest step, e, sub-one) t }
+    pub steps-next : 0 < left → Steps (left - 1) after input w
+    unfolding recordsFrom
+    steps-next h = go left h (s .here)
+      where
+        go : (m : ℕ) → 0 < m → recordsFrom m (drop at input) ≡ w → Steps (m - 1) after input w
+        go zero h t = absurd (omega arith)
+        go (suc m) h t = record { here = rw (a, after-drops input at, sub-one) t; within = rw a (after-within input at (s .within)) }

@@ -1,5 +1,8 @@
 // Where record n of an input stands (document 01, "Every record: length of the whole record"), as a part of the caller's bytes: the body
 // lookup and rule 0 use it. It asks nothing of the bytes.
+pub mod walker;
+
+use crate::walker::step;
 use shapes::fields::wide;
 use shapes::fields::word;
 ghost use mathlib.Core.Path.{_≡_};
@@ -20,23 +23,20 @@ pub fn front_length(l: &[u8]) -> usize
     word(l, 0)
 }
 
-// What stands from record n on, nothing where the input ends before it. A length of 0 moves no further, so a large n ends at once.
+// What stands from record n on, nothing where the input ends before it: n steps of the record walker. It stops where a step no longer moves, so
+// a large n ends at once.
 pub fn record_at(input: &[u8], n: usize) -> &[u8]
     ensures { λ r. ⌜ now r ≡ recordsFrom n (now (input .entry)) ⌝ }
 {
-    let mut rest = input;
+    let mut at = 0;
     let mut left = n;
     while 0 < left {
-        let step = front_length(rest);
-        if step == 0 {
-            return rest;
+        let after = step(input, at);
+        if after == at {
+            return &input[at..];
         }
-        if rest.len() <= step {
-            let end = rest.len();
-            return &rest[end..];
-        }
-        rest = &rest[step..];
+        at = after;
         left -= 1;
     }
-    rest
+    &input[at..]
 }

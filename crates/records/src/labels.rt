@@ -8,13 +8,13 @@ ghost use Prim.Native.Nat.{_≤_};
 ghost use lib.ListN.{length};
 ghost use Rattle.meaning.specs.Records.{readLabel};
 ghost use Rattle.meaning.specs.Refusals.{goodLabel};
-ghost use Rattle.records.specs.Labels.{LabelRecords, Highest, labelsAt, nameUsed};
+ghost use Rattle.records.specs.Labels.{LabelRecords, Highest, labelsAt, nameUsed, isClass};
 
 // "Labels 2 to 200 are declared as element or attribute."
 const FIRST_DECLARED: usize = 2;
 
 const LAST_DECLARED: usize = 200;
-// "class (1 element, 2 attribute)"
+// The classes of a label record
 const ELEMENT: usize = 1;
 
 const ATTRIBUTE: usize = 2;
@@ -43,6 +43,16 @@ pub fn name_used(bytes: &[u8], count: usize, name: &[u8]) -> bool
     false
 }
 
+// "class (1 element, 2 attribute)"
+fn is_class(class: usize) -> bool
+    ensures { λ r. ⌜ r ≡ isClass class ⌝ }
+{
+    if class == ELEMENT {
+        return true;
+    }
+    class == ATTRIBUTE
+}
+
 // 3: "label number outside 2..200 or not ascending; class; name ill-formed or used before"
 pub fn good_label(bytes: &[u8], count: usize, last: usize, body: &[u8]) -> bool
     requires { ⌜ LabelRecords count (now bytes) × Highest (labelsAt count (now bytes)) last × (2 ≤ length (now body)) ⌝ }
@@ -58,11 +68,8 @@ pub fn good_label(bytes: &[u8], count: usize, last: usize, body: &[u8]) -> bool
     if number <= last {
         return false;
     }
-    let class = wide(body[CLASS_AT]);
-    if class != ELEMENT {
-        if class != ATTRIBUTE {
-            return false;
-        }
+    if !is_class(wide(body[CLASS_AT])) {
+        return false;
     }
     let name = &body[NAME_AT..];
     if !is_name(name) {

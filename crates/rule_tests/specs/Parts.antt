@@ -1,17 +1,16 @@
 -- What the tests of rules ask of key bodies, and sets as bytes.
-use Prim.Native.Nat.{ℕ, zero, suc, _+_, _-_, _<_, _≤_}
-use mathlib.Core.Path.{_≡_, refl, sym, ap, ap₂, subst, _∙_}
-use mathlib.Core.Bool.{Bool, true, false, _&&_}
+use Prim.Native.Nat.{ℕ, zero, suc, _≤_}
+use mathlib.Core.Path.{_≡_, refl, sym, ap, ap₂, _∙_}
+use mathlib.Core.Bool.{Bool, true, _&&_}
 use mathlib.Core.List.{List, [], _∷_, _++_, map, flatten}
 use native.Mathlib.Omega.{arith}
 use lib.Dec.{T}
-use lib.ListN.{length, take, drop, take-append-drop}
+use lib.ListN.{length, take-append-drop}
 use lib.Seq.{length-take-le}
 use borrow.Author.Tests.{leb-true}
 use Rattle.meaning.specs.Limits.{inProof}
 use Rattle.meaning.specs.Lists.{isEmpty, same}
 use Rattle.meaning.specs.Paths.{Label, normal}
-use Rattle.meaning.specs.Keys.{Key}
 use Rattle.meaning.specs.Records.{readKey, keyIn, isSome, pathBytes}
 use Rattle.theory_paths.specs.Bools.{bool-eq, same-eq, eq-same, and-left, and-right, of-true, true-of}
 use Rattle.theory_paths.specs.Good

@@ -1,23 +1,22 @@
 -- Walking the key paths of a body from the first to the last: a law for each return and each turn.
-use Prim.Native.Nat.{ℕ, zero, suc, _+_, _-_, _<_, _≤_}
+use Prim.Native.Nat.{ℕ, suc, _+_, _<_, _≤_}
 use mathlib.Core.Path.{_≡_, refl, sym, ap, ap₂, subst, _∙_}
 use mathlib.Core.Bool.{Bool, true, false, _&&_, _||_, not}
-use mathlib.Core.List.{List, [], _∷_, _++_, map}
+use mathlib.Core.List.{List, [], _∷_, _++_}
 use native.Mathlib.Numerals.{add-one}
 use native.Mathlib.Omega.{arith}
 use lib.Dec.{T}
-use lib.ListN.{length, getD, take, drop, drop-of-length-le}
+use lib.ListN.{length, getD, drop, drop-of-length-le}
 use lib.Seq.{drop-cons}
 use borrow.Author.Tests.{not-true, not-false}
 use Rattle.meaning.specs.Lists.{any, every, isEmpty, same}
-use Rattle.meaning.specs.Records.{readKey, keyIn, isSome}
 use Rattle.shapes.specs.Parts.{holdsPath, leadPath, afterPath}
 use Rattle.shapes.specs.KeyPaths.{AtPath, at-holds, at-lead, at-next}
 use Rattle.theory_paths.specs.Bools.{bool-eq}
 use Rattle.theory_lines.specs.SameParts.{sameSets}
 use Rattle.theory_lines.specs.Interactions.{prefixed}
 use Rattle.theory_lines.specs.Beginnings.{begins, begins-split, begins-append}
-use Rattle.paths.specs.Forms.{isBeginning, beginning-rest, beginning-of}
+use Rattle.joins.specs.Forms.{isBeginning, beginning-rest, beginning-of}
 
 path-step : (ps : List (List ℕ)) (i : ℕ) → i < length ps → drop i ps ≡ getD ps i [] ∷ drop (i + 1) ps
 path-step ps i h = rw add-one (drop-cons ps i [] h)

@@ -1,15 +1,15 @@
 -- Where the parts of a key stand in its body, and stepping from key path to key path in place.
 use Prim.Native.Nat.{ℕ, zero, suc, _+_, _-_, _<_, _≤_}
-use mathlib.Core.Path.{_≡_, refl, sym, ap, subst, _∙_}
-use mathlib.Core.Bool.{Bool, true, false, _&&_}
+use mathlib.Core.Path.{_≡_, refl, sym, ap, _∙_}
+use mathlib.Core.Bool.{Bool, true, false, _&&_, not}
 use mathlib.Core.List.{List, [], _∷_}
-use native.Mathlib.Numerals.{add-one, sub-one}
+use native.Mathlib.Numerals.{add-one}
 use native.Mathlib.Omega.{arith}
-use lib.ListN.{length, getD, take, drop}
-use lib.Seq.{drop-cons, take-all}
-use borrow.Rule.Slice.PartAt.{part-to-end}
-use Rattle.meaning.specs.Keys.{Key}
+use lib.ListN.{length, getD, drop}
+use lib.Seq.{drop-cons}
+use Rattle.meaning.specs.Lists.{every}
 use Rattle.meaning.specs.Records.{readKey, keyIn, isSome}
+use Rattle.shapes.specs.Scans.{Scan, scan-start, scan-next, scan-stop, scan-end}
 use Rattle.shapes.specs.Parts.{holdsPath, leadPath, afterPath, pathsEnd, setEnds, pathsOf, setOf, setIn, keyEnds, keyOf, isSome-parts, keyIn-parts}
 
 -- where the key paths begin, behind their count
@@ -129,3 +129,23 @@ module _ {ps : List (List ℕ)} {i : ℕ} {rest : List ℕ} (a : AtPath ps i res
             rw (n, add-one)
             (step-are (length ps - suc i) rest (getD ps i []) (drop (suc i) ps) ((rw k at (a .are)) ∙ drop-cons ps i [] h));
       }
+
+-- A scan of the key paths for f, in place
+pub record PathScan (f : List ℕ → Bool) (ps : List (List ℕ)) (i : ℕ) (rest : List ℕ) (w : Bool) : Type 0 where
+  pub at : AtPath ps i rest
+  pub scan : Scan [] f ps i w
+
+pub path-scan-start : (f : List ℕ → Bool) (ps : List (List ℕ)) (rest : List ℕ) → AtPath ps 0 rest → PathScan f ps 0 rest (every f ps)
+path-scan-start f ps rest a = record { at = a; scan = scan-start [] f ps }
+
+module _ {f : List ℕ → Bool} {ps : List (List ℕ)} {i : ℕ} {rest : List ℕ} {w : Bool} (s : PathScan f ps i rest w) where
+  pub path-scan-stop : i < length ps → {p : List ℕ} → p ≡ leadPath rest → {r : Bool} → r ≡ f p → not r ≡ true → false ≡ w
+  path-scan-stop h l e t = scan-stop (s .scan) h (e ∙ ap f (l ∙ at-lead (s .at) h)) t
+
+  pub path-scan-next : i < length ps → {p : List ℕ} → p ≡ leadPath rest → {r : Bool} → r ≡ f p → not r ≡ false
+      → {next : List ℕ} → next ≡ afterPath rest → PathScan f ps (i + 1) next w
+  path-scan-next h l e t n =
+      record { at = at-next (s .at) h n; scan = scan-next (s .scan) h (e ∙ ap f (l ∙ at-lead (s .at) h)) t }
+
+  pub path-scan-end : length ps ≤ i → true ≡ w
+  path-scan-end h = scan-end (s .scan) h

@@ -22,32 +22,13 @@ use Rattle.theory_paths.specs.Good.{GoodLabels, GoodKey}
 use Rattle.theory_records.specs.Profiles.{accepted-labels, accepted-keys, accepted-few}
 use Rattle.theory_records.specs.Questions.{question-accepts}
 use Rattle.theory_records.specs.WrittenInputs.{LineFits, proof-walked-written}
+use Rattle.theory_operations.specs.Refusing.{unless-sound, sound-more, sound-end, fits-size}
 use Rattle.theory_rules.specs.Accepted.{accepted-implied}
 use Rattle.theory_derive.specs.Spots.{Taken, Chain}
 use Rattle.theory_derive.specs.Written.{proofLines}
 use Rattle.theory_derive.specs.Runs.{FineLine}
 use Rattle.theory_derive.specs.Accept.{proof-accepted, proof-fine, proof-few}
 use Rattle.theory_derive.specs.Bytes.{FieldsFit, proof-bytes, proof-fields}
-
--- where no refusal stands, the answer is what Q says of it
-pub unless-sound : (rs : List Refusal) (buffer : List ℕ) (Q : Operations.Answer → Type 0) (answer : Operations.Answer) → firstRefusal rs .number ≡ 0
-    → Q answer → Unless rs buffer Q answer
-unfolding Unless choose
-unless-sound rs buffer Q answer e q =
-    subst (λ (n : ℕ). choose n (Q answer) (answer ≡ Operations.refusedBy (firstRefusal rs) buffer)) (sym e) q
-
--- the refusals that come one after the other are all sound
-pub sound-more : (r : Refusal) (rs : List Refusal) → r .number ≡ 0 → firstRefusal rs .number ≡ 0 → firstRefusal (r ∷ rs) .number ≡ 0
-unfolding firstRefusal
-sound-more r rs e f = rw (eq-eqb (r .number) 0 e) f
-
-pub sound-end : firstRefusal [] .number ≡ 0
-unfolding firstRefusal
-sound-end = refl
-
-pub fits-size : (input limit : ℕ) (bytes : List ℕ) → length bytes ≤ limit → oversize input limit bytes .number ≡ 0
-unfolding oversize
-fits-size input limit bytes h = rw (le-ltb limit (length bytes) h) refl
 
 both-fit : (labels : List Label) {lines : List Line} → Each (FineLine labels) lines → Each FieldsFit lines → Each (LineFits labels) lines
 both-fit labels end end = end

@@ -36,7 +36,7 @@ use Rattle.theory_records.specs.WrittenInputs.{nodes-size}
 use Rattle.theory_counter.specs.Counterexample.{counter-breaks, counter-keeps, counter-not-implied}
 use Rattle.theory_counter.specs.WrittenFile.{counter-accepted, counter-read}
 use Rattle.theory_counter.specs.Size.{written-most}
-use Rattle.theory_decide.specs.Implied.{unless-sound, sound-more, sound-end}
+use Rattle.theory_operations.specs.Refusing.{unless-sound, sound-more, sound-end}
 
 module _ (profile question : List ℕ) (soundProfile : profileRefusal profile .number ≡ 0)
     (soundQuestion : questionRefusal (labelsIn profile) question .number ≡ 0) (u : ℕ) (isU : IsU (keysIn profile) (questionIn question) u) where

@@ -1,8 +1,7 @@
 use Prim.Native.Nat.{_-_}
 use Rattle.meaning.specs.Lists.{any, same}
 use Rattle.meaning.specs.Records.{keyIn}
-use Rattle.theory_lines.specs.Beginnings.{begins}
-use Rattle.theory_lines.specs.SameParts.{allBegin, allAmong}
+use Rattle.theory_lines.specs.SameParts.{allAmong}
 use Rattle.rule_tests.specs.Walks.{Round, round-start, round-holds, round-stop, round-next, round-done}
 use native.Mathlib.Omega.{arith}
 use borrow.Author.Needs.{needs}

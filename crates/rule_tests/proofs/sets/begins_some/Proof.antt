@@ -1,16 +1,15 @@
 use mathlib.Core.Path.{_∙_}
 use Prim.Native.Nat.{_-_}
-use Rattle.meaning.specs.Lists.{isEmpty, same}
 use Rattle.meaning.specs.Records.{keyIn}
 use Rattle.theory_lines.specs.Beginnings.{begins}
-use Rattle.rule_tests.specs.Walks.{Hunt, hunt-start, hunt-holds, hunt-found, hunt-next, hunt-done, empty-yes, empty-no, hunt-hit, hunt-miss, beginning-is}
+use Rattle.rule_tests.specs.Walks.{Hunt, hunt-start, hunt-holds, hunt-done, hunt-hit, hunt-miss, beginning-is}
 use native.Mathlib.Omega.{arith}
 use borrow.Author.Needs.{needs}
 use Rattle.rule_tests.proofs.sets.begins_some.Statement.{statement}
 use Rattle.rule_tests.proofs.sets.begins_some.Tie as tie
 use Rattle.rule_tests.proofs.sets.begins_some.Reads as reads
 use Rattle.rule_tests.proofs.sets.begins_some.Lts as lts
-use Rattle.paths.proofs.begins.Reads as begins-reads
+use Rattle.joins.proofs.begins.Reads as begins-reads
 use Rattle.shapes.proofs.bodies.after_path.Reads as after-path-reads
 use Rattle.shapes.proofs.bodies.lead_path.Reads as lead-path-reads
 use Rattle.shapes.proofs.keys.count.Reads as count-reads

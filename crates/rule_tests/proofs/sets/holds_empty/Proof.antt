@@ -1,8 +1,7 @@
 use Prim.Native.Nat.{_-_}
-use Rattle.meaning.specs.Lists.{isEmpty, same}
+use Rattle.meaning.specs.Lists.{isEmpty}
 use Rattle.meaning.specs.Records.{keyIn}
-use Rattle.theory_lines.specs.Beginnings.{begins}
-use Rattle.rule_tests.specs.Walks.{Hunt, hunt-start, hunt-holds, hunt-found, hunt-next, hunt-done, empty-yes, empty-no, hunt-hit, hunt-miss, beginning-is}
+use Rattle.rule_tests.specs.Walks.{Hunt, hunt-start, hunt-holds, hunt-found, hunt-next, hunt-done, empty-yes, empty-no}
 use native.Mathlib.Omega.{arith}
 use borrow.Author.Needs.{needs}
 use Rattle.rule_tests.proofs.sets.holds_empty.Statement.{statement}

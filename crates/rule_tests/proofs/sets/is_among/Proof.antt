@@ -1,15 +1,14 @@
 use Prim.Native.Nat.{_-_}
-use Rattle.meaning.specs.Lists.{isEmpty, same}
+use Rattle.meaning.specs.Lists.{same}
 use Rattle.meaning.specs.Records.{keyIn}
-use Rattle.theory_lines.specs.Beginnings.{begins}
-use Rattle.rule_tests.specs.Walks.{Hunt, hunt-start, hunt-holds, hunt-found, hunt-next, hunt-done, empty-yes, empty-no, hunt-hit, hunt-miss, beginning-is}
+use Rattle.rule_tests.specs.Walks.{Hunt, hunt-start, hunt-holds, hunt-done, hunt-hit, hunt-miss}
 use native.Mathlib.Omega.{arith}
 use borrow.Author.Needs.{needs}
 use Rattle.rule_tests.proofs.sets.is_among.Statement.{statement}
 use Rattle.rule_tests.proofs.sets.is_among.Tie as tie
 use Rattle.rule_tests.proofs.sets.is_among.Reads as reads
 use Rattle.rule_tests.proofs.sets.is_among.Lts as lts
-use Rattle.paths.proofs.same.Reads as same-reads
+use Rattle.joins.proofs.same.Reads as same-reads
 use Rattle.shapes.proofs.bodies.after_path.Reads as after-path-reads
 use Rattle.shapes.proofs.bodies.lead_path.Reads as lead-path-reads
 use Rattle.shapes.proofs.keys.count.Reads as count-reads

@@ -1,9 +1,4 @@
 use Prim.Native.Nat.{_-_}
-use mathlib.Core.Path.{_∙_, sym, ap₂}
-use mathlib.Core.List.{List, _++_}
-use Prim.Native.Nat.{ℕ}
-use borrow.Author.Tests.{not-true, not-false}
-use Rattle.meaning.specs.Lists.{same}
 use Rattle.meaning.specs.Records.{keyIn}
 use Rattle.rule_tests.specs.Walks.{Beside, beside-start, beside-lengths, beside-holds, beside-other, beside-stop, beside-next, beside-done}
 use native.Mathlib.Omega.{arith}

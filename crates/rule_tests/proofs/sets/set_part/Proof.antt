@@ -1,7 +1,6 @@
 use mathlib.Core.Path.{ap, _∙_}
 use Rattle.shapes.specs.Parts.{afterPath, setIn, holdsPath}
 use Rattle.shapes.specs.KeyPaths.{context-holds, target-holds}
-use native.Mathlib.Omega.{arith}
 use borrow.Author.Needs.{needs}
 use Rattle.rule_tests.proofs.sets.set_part.Statement.{statement}
 use Rattle.rule_tests.proofs.sets.set_part.Tie as tie

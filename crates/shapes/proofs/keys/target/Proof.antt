@@ -1,12 +1,9 @@
+-- `shapes::keys::target` meets its contract. One law of specs/ for each return.
 use mathlib.Core.Path.{_∙_, ap}
-use Rattle.shapes.specs.Parts.{holdsPath, leadPath, afterPath}
+use Rattle.shapes.specs.Parts.{holdsPath, leadPath}
 use Rattle.shapes.specs.KeyPaths.{context-holds, target-holds, target-is}
 use Rattle.shapes.proofs.keys.target.Statement.{statement}
 use Rattle.shapes.proofs.keys.target.Tie as tie
-use Rattle.shapes.proofs.keys.target.Reads as reads
-use Rattle.shapes.proofs.keys.target.Lts as lts
-use Rattle.shapes.proofs.bodies.after_path.Reads as after-path-reads
-use Rattle.shapes.proofs.bodies.lead_path.Reads as lead-path-reads
 
 -- src/keys.rt:27:9
 after-path-requires : tie.Need-after-path-requires

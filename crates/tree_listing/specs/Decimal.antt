@@ -1,0 +1,56 @@
+-- Decimal digits: one more digit for each division by ten; a number below 65,536 has at most five.
+use Prim.Native.Nat.{ℕ, zero, suc, _+_, _-_, _*_, _/_, _%_, _<_, _≤_}
+use mathlib.Core.Path.{_≡_, refl, sym, _∙_, ap, subst}
+use mathlib.Core.Bool.{Bool, true, false, cond}
+use mathlib.Core.List.{List, [], _∷_, _++_}
+use native.Mathlib.Omega.{arith}
+use native.Mathlib.Decide.{decLt}
+use lib.Dec.{ltb}
+use lib.ListN.{length, length-append}
+use borrow.Author.Tests.{lt-ltb, le-ltb, ltb-true, ltb-false}
+use Rattle.meaning.specs.Listing.{digits, decimal}
+
+-- more steps than the number has digits change nothing
+steps-same : (s r n : ℕ) → n < s → n < r → digits s n ≡ digits r n
+unfolding digits
+steps-same zero r n h g = absurd (omega arith)
+steps-same (suc s) zero n h g = absurd (omega arith)
+steps-same (suc s) (suc r) n h g = go (decLt n 10) (steps-same s r (n / 10))
+  where
+    go : Dec (n < 10) → (n / 10 < s → n / 10 < r → digits s (n / 10) ≡ digits r (n / 10)) → digits (suc s) n ≡ digits (suc r) n
+    go (yes l) ih = rw (lt-ltb n 10 l)
+    go (no m) ih = rw (le-ltb n 10 (omega arith), ih (omega arith) (omega arith))
+
+pub decimal-one : (n : ℕ) → n < 10 → decimal n ≡ (48 + n) ∷ []
+unfolding digits decimal
+decimal-one n h = rw (lt-ltb n 10 h)
+
+pub decimal-more : (n : ℕ) → 10 ≤ n → decimal n ≡ decimal (n / 10) ++ ((48 + n % 10) ∷ [])
+unfolding digits decimal
+decimal-more n h = rw (le-ltb n 10 h, steps-same n (suc (n / 10)) (n / 10) (omega arith) (omega arith))
+
+length-more : (n : ℕ) → 10 ≤ n → length (decimal n) ≡ length (decimal (n / 10)) + 1
+length-more n h = ap length (decimal-more n h) ∙ length-append (decimal (n / 10)) ((48 + n % 10) ∷ [])
+
+-- at most k digits, where the tenth part has at most k - 1
+fewer : (k n : ℕ) → (10 ≤ n → length (decimal (n / 10)) ≤ k) → length (decimal n) ≤ k + 1
+fewer k n h = go (decLt n 10)
+  where
+    go : Dec (n < 10) → length (decimal n) ≤ k + 1
+    go (yes l) = let e = ap length (decimal-one n l) in omega arith
+    go (no m) = let e = length-more n (omega arith) in let g = h (omega arith) in omega arith
+
+one-digit : (n : ℕ) → n < 10 → length (decimal n) ≤ 1
+one-digit n h = fewer 0 n (λ g. absurd (omega arith))
+
+two-digits : (n : ℕ) → n < 100 → length (decimal n) ≤ 2
+two-digits n h = fewer 1 n (λ g. one-digit (n / 10) (omega arith))
+
+three-digits : (n : ℕ) → n < 1000 → length (decimal n) ≤ 3
+three-digits n h = fewer 2 n (λ g. two-digits (n / 10) (omega arith))
+
+pub four-digits : (n : ℕ) → n < 10000 → length (decimal n) ≤ 4
+four-digits n h = fewer 3 n (λ g. three-digits (n / 10) (omega arith))
+
+pub five-digits : (n : ℕ) → n < 65536 → length (decimal n) ≤ 5
+five-digits n h = fewer 4 n (λ g. four-digits (n / 10) (omega arith))

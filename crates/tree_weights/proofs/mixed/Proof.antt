@@ -1,0 +1,36 @@
+use native.Mathlib.Omega.{arith}
+use mathlib.Core.Path.{refl}
+use Rattle.tree_weights.specs.Weights.{mix, product-fits}
+use borrow.Author.Needs.{needs}
+use Rattle.tree_weights.proofs.mixed.Statement.{statement}
+use Rattle.tree_weights.proofs.mixed.Tie as tie
+use Rattle.tree_weights.proofs.mixed.Reads as reads
+use Rattle.tree_weights.proofs.mixed.Lts as lts
+
+-- src/lib.rt:27:19
+mul-joined : tie.Need-mul-joined
+mul-joined c = search needs
+
+-- src/lib.rt:27:19
+add-joined : tie.Need-add-joined
+add-joined c = search needs
+
+-- src/lib.rt:27:19
+add-joined-2 : tie.Need-add-joined-2
+add-joined-2 c = search needs
+
+-- src/lib.rt:28:15
+add-result : tie.Need-add-result
+add-result c = search needs
+
+-- src/lib.rt:28:5
+mul-result : tie.Need-mul-result
+mul-result c = record { fits = product-fits _ _ (omega arith) (omega arith) }
+
+-- src/lib.rt:23:1
+returns : tie.Need-returns
+unfolding mix
+returns c = (refl, omega arith)
+
+pub mixed-spec : {M : Type 1} → statement M
+mixed-spec = tie.close (tie.spec mul-joined add-joined add-joined-2 add-result mul-result returns)

@@ -1,0 +1,69 @@
+// A weight for each node, once per tree and backwards (children stand after their parents): label, value and the sum of the children's weights
+// mixed into 32 bits, such that value-equal nodes have equal weights. A sum, so that the order of children does not matter.
+use tree_nodes::fields::is_element;
+use tree_nodes::fields::label;
+use tree_nodes::fields::parent;
+use tree_nodes::fields::size;
+use tree_nodes::fields::value;
+ghost use mathlib.Core.Path.{_≡_};
+ghost use Prim.Native.Nat.{ℕ, _<_};
+ghost use lib.ListN.{length, getD};
+ghost use Rattle.tree_nodes.specs.FileTable.{fileTable, classBy, TreeBytes};
+ghost use Rattle.tree_classes.specs.Leaders.{Weighed};
+ghost use Rattle.tree_weights.specs.Weights.{mix, weightOf};
+
+// A value has two bytes; a weight has 32 bits.
+const VALUES: usize = 65536;
+
+const RANGE: usize = 4294967296;
+
+const SPREAD: usize = 40503;
+
+fn wide(n: u32) -> usize
+    ensures { λ r. ⌜ (r ≡ n) × (r < 4294967296) ⌝ }
+{
+    n as usize
+}
+
+fn mixed(tag: usize, worth: usize, sum: usize) -> usize
+    requires { ⌜ (tag < 256) × (worth < 65536) × (sum < 4294967296) ⌝ }
+    ensures { λ r. ⌜ (r ≡ mix tag worth sum) × (r < 4294967296) ⌝ }
+{
+    let joined = (tag * VALUES + worth + sum) % RANGE;
+    joined * (joined % VALUES + SPREAD) % RANGE
+}
+
+fn node_weight(tree: &[u8], classes: &[u8; 256], x: usize, sum: usize) -> usize
+    requires { ⌜ TreeBytes (now classes) (now tree) × (x < fileTable (now tree) .size) × (sum < 4294967296) ⌝ }
+    ensures { λ r. ⌜ (r ≡ weightOf (classBy (now (classes .entry))) (fileTable (now (tree .entry))) sum x) × (r < 4294967296) ⌝ }
+{
+    let tag = label(tree, x);
+    if is_element(classes, tag) {
+        return mixed(tag, 0, sum);
+    }
+    mixed(tag, value(tree, x), 0)
+}
+
+fn no_weights() -> [u32; 4096]
+    ensures { λ r. ⌜ (length r ≡ 4096) × ((i : ℕ) → getD r i 0 ≡ 0) ⌝ }
+{
+    [0u32; 4096]
+}
+
+pub fn weigh(tree: &[u8], classes: &[u8; 256]) -> [u32; 4096]
+    requires { ⌜ TreeBytes (now classes) (now tree) ⌝ }
+    ensures { λ r. ⌜ Weighed (classBy (now (classes .entry))) (fileTable (now (tree .entry))) r ⌝ }
+{
+    let mut weight = no_weights();
+    let mut sums = no_weights();
+    let mut i = size(tree);
+    while 1 < i {
+        i -= 1;
+        let above = parent(tree, i);
+        let own = node_weight(tree, classes, i, wide(sums[i]));
+        let added = (wide(sums[above]) + own) % RANGE;
+        weight[i] = own as u32;
+        sums[above] = added as u32;
+    }
+    weight
+}
