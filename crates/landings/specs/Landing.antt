@@ -1,15 +1,15 @@
 -- Landings as the code tests them: a law for each return and each turn.
-use Prim.Native.Nat.{ℕ, zero, suc, _+_, _-_, _≤_, _<_}
-use mathlib.Core.Path.{_≡_, refl, sym, ap, ap₂, subst, _∙_}
-use mathlib.Core.Bool.{Bool, true, false, cond, _&&_, _||_, not}
-use mathlib.Core.List.{List, [], _∷_, _++_}
+use Prim.Native.Nat.{ℕ, suc, _+_, _-_, _≤_, _<_}
+use mathlib.Core.Path.{_≡_, refl, sym, ap, ap₂, _∙_}
+use mathlib.Core.Bool.{Bool, true, false, _&&_, _||_, not}
+use mathlib.Core.List.{List}
 use native.Mathlib.Numerals.{add-one}
 use native.Mathlib.Omega.{arith}
 use lib.Dec.{T, eqb, leb}
 use lib.ListN.{length, take, drop, length-take, length-drop}
 use lib.Seq.{take-at, length-slice}
 use borrow.Author.Tests.{le-leb, lt-leb, eq-eqb, ne-eqb, not-true, not-false}
-use Rattle.meaning.specs.Lists.{every, any, isEmpty, same, numbers}
+use Rattle.meaning.specs.Lists.{any, isEmpty, same, numbers}
 use Rattle.meaning.specs.Keys.{Key}
 use Rattle.meaning.specs.Records.{readKey, keyIn, isSome}
 use Rattle.meaning.specs.Pattern.{tOf}
@@ -66,14 +66,22 @@ module _ (asked : Key) (line : List ℕ) (k : ℕ) where
   unfolding markedIn
   marked-end e = rw (eq-eqb k (length line) e)
 
-  pub marked-not : (k ≡ length line → ⊥) → {r : Bool} → r ≡ any isEmpty (asked .paths) → not r ≡ true → false ≡ markedIn asked line k
-  unfolding markedIn holdsEmpty
-  marked-not n e t = rw (ne-eqb k (length line) n, sym e ∙ not-true _ t)
+  module _ (n : k ≡ length line → ⊥) {t : ℕ} (m : t ≡ tOf asked) where
+    pub marked-above : k < t → false ≡ markedIn asked line k
+    unfolding markedIn
+    marked-above h = rw (ne-eqb k (length line) n, lt-leb (tOf asked) k (omega arith)) (go (holdsEmpty asked))
+      where
+        go : (b : Bool) → false ≡ (b && false)
+        go true = refl
+        go false = refl
 
-  pub marked-below : (k ≡ length line → ⊥) → {r : Bool} → r ≡ any isEmpty (asked .paths) → not r ≡ false → {t : ℕ} → t ≡ tOf asked
-      → leb t k ≡ markedIn asked line k
-  unfolding markedIn holdsEmpty
-  marked-below n e t m = rw (ne-eqb k (length line) n, sym e ∙ not-false _ t, m)
+    pub marked-below : t ≤ k → {r : Bool} → r ≡ any isEmpty (asked .paths) → r ≡ markedIn asked line k
+    unfolding markedIn holdsEmpty
+    marked-below h {r} e = rw (ne-eqb k (length line) n, le-leb (tOf asked) k (omega arith), sym e) (go r)
+      where
+        go : (b : Bool) → b ≡ (b && true)
+        go true = refl
+        go false = refl
 
 -- landings on one line
 module _ {body line : List ℕ} {k : ℕ} (o : OnLine body line k) (p : List ℕ) where

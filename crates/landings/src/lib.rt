@@ -8,7 +8,6 @@ use shapes::keys::context;
 use shapes::keys::count;
 use shapes::keys::paths;
 use shapes::keys::target;
-ghost use Prim.Native.Nat.{_≤_};
 ghost use mathlib.Core.Path.{_≡_};
 ghost use mathlib.Core.Bool.{true};
 ghost use lib.ListN.{length};
@@ -36,10 +35,10 @@ fn marked(asked: &[u8], symbols: &[u8], k: usize) -> bool
     if k == symbols.len() {
         return true;
     }
-    if !holds_empty(asked) {
+    if k < chain_end(asked) {
         return false;
     }
-    chain_end(asked) <= k
+    holds_empty(asked)
 }
 
 // The key path, read from k on, ends on a mark of this line.

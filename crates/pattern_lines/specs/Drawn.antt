@@ -1,11 +1,10 @@
 -- The asked key's lines in a list of bytes, line j from byte 25 j on: what drawing them asks and what a reader of a line needs.
 use Prim.Native.Nat.{ℕ, suc, _+_, _*_, _-_, _≤_, _<_}
 use mathlib.Core.Path.{_≡_, refl, sym, ap, ap₂, subst, _∙_}
-use mathlib.Core.Logic.{⊎-elim}
 use mathlib.Core.Bool.{true}
-use mathlib.Core.List.{List, [], _∷_, _++_, append-assoc}
+use mathlib.Core.List.{List, [], _∷_, _++_}
 use native.Mathlib.Omega.{arith}
-use lib.ListN.{length, getD, set, take, drop, length-append, take-append-drop, length-take}
+use lib.ListN.{length, getD, set, take, drop, length-append, take-append-drop}
 use lib.Seq.{slice, take-at, drop-append-le, length-take-le}
 use borrow.Rule.Slice.PartAt.{part-to-end}
 use borrow.Author.Count.{below-more}
@@ -14,7 +13,7 @@ use Rattle.meaning.specs.Keys.{Key}
 use Rattle.meaning.specs.Records.{readKey, keyIn, isSome, pathBytes}
 use Rattle.meaning.specs.Pattern.{tOf}
 use Rattle.theory_derive.specs.Spots.{chainOf, branchOf, lineOf}
-use Rattle.theory_derive.specs.Lines.{chain-length, line-length}
+use Rattle.theory_derive.specs.Lines.{line-length}
 use Rattle.shapes.specs.Parts.{holdsPath, leadPath, afterPath}
 use Rattle.shapes.specs.KeyPaths.{AtPath, at-holds, at-lead, at-next}
 use Rattle.pattern_lines.specs.Copies.{Copied, Room, copied-one, copied-then, copied-before, copied-there}

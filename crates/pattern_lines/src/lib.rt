@@ -6,7 +6,7 @@ use shapes::keys::context;
 use shapes::keys::count;
 use shapes::keys::paths;
 use shapes::keys::target;
-ghost use Prim.Native.Nat.{_+_, _*_, _≤_};
+ghost use Prim.Native.Nat.{_+_, _*_};
 ghost use mathlib.Core.Path.{_≡_};
 ghost use mathlib.Core.List.{_++_};
 ghost use lib.ListN.{length};

@@ -7,7 +7,6 @@ use native.Mathlib.Numerals.{add-one}
 use native.Mathlib.Omega.{arith}
 use lib.ListN.{length, getD, set, length-set}
 use lib.Seq.{getD-set-same, getD-set-other}
-use Rattle.meaning.specs.Keys.{Key}
 use Rattle.meaning.specs.Records.{keyIn}
 use Rattle.meaning.specs.Operations.{recordsFrom}
 use Rattle.meaning.specs.Pattern.{qOf, tOf}

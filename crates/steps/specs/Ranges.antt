@@ -1,32 +1,28 @@
--- The ranges of the loops above a branch: its branches, the chain nodes to u, the profile's keys. A law for each return and each turn.
-use Prim.Native.Nat.{ℕ, suc, _+_, _-_, _≤_, _<_}
-use mathlib.Core.Path.{_≡_, refl, sym, ap, subst, _∙_}
+-- The ranges of the outer loops: the branches, then the profile's keys. A law for each return and each turn.
+use Prim.Native.Nat.{ℕ, _+_, _-_, _≤_, _<_}
+use mathlib.Core.Path.{_≡_, sym, ap, subst, _∙_}
 use mathlib.Core.Logic.{_⊎_, inl, inr}
-use mathlib.Core.Bool.{Bool, true, false, not}
+use mathlib.Core.Bool.{true, false}
 use mathlib.Core.List.{List}
-use native.Mathlib.Numerals.{add-one}
 use native.Mathlib.Omega.{arith}
 use lib.Dec.{T}
 use lib.ListN.{length, take, drop}
 use borrow.Author.Count.{below-more}
-use borrow.Author.Tests.{not-true, not-false}
 use borrow.Rule.Slice.PartAt.{part-to-end}
-use Rattle.meaning.specs.Paths.{member}
 use Rattle.meaning.specs.Keys.{Key}
 use Rattle.meaning.specs.Records.{recordLength, recordBody, readKey, keyIn, isSome}
 use Rattle.meaning.specs.Operations.{recordsFrom}
 use Rattle.meaning.specs.Pattern.{tOf}
-use Rattle.theory_paths.specs.Bools.{of-true, false-of, of-false}
 use Rattle.theory_records.specs.Bodies.{records-next}
 use Rattle.theory_derive.specs.Logic.{less-or}
 use Rattle.theory_derive.specs.Spots.{Taken as Step, lineOf, firesBy, firesFound, fires, Fires}
 use Rattle.theory_derive.specs.Firing.{fires-says}
 use Rattle.theory_derive.specs.Lines.{line-length}
-use Rattle.theory_derive.specs.Ranges.{line-shared, InRange}
-use Rattle.pattern_lines.specs.Drawn.{Drawn, HasLine, lineIn, drawn-has, drawn-is}
+use Rattle.theory_derive.specs.Ranges.{InRange}
+use Rattle.pattern_lines.specs.Drawn.{Drawn}
 use Rattle.steps.specs.declared.firing.Taken.{Taken}
 use Rattle.steps.specs.Profile.{KeyStands, keyAt, keysAt, keys-length, keys-found}
-use Rattle.steps.specs.Firing.{fires-parts, OnBranch, HitOn, NoneOn}
+use Rattle.steps.specs.Firing.{OnBranch, Hit, NoneAt, NoneOn}
 
 -- below u, where u is no t yet
 pub record Ready (body lines : List ℕ) (u : ℕ) : Type 0 where
@@ -39,137 +35,65 @@ pub record OfKey (body lines key : List ℕ) (u : ℕ) : Type 0 where
   pub ready : Ready body lines u
   pub isKey : isSome (readKey key) ≡ true
 
-pub record ToNode (body lines key : List ℕ) (i u : ℕ) : Type 0 where
-  pub ofKey : OfKey body lines key u
-  pub node : i ≤ u
-
 -- t is at most 16 and so u is small
 pub ready-small : {body lines : List ℕ} {u : ℕ} → Ready body lines u → tOf (keyIn body) ≤ 24
 ready-small {body} r = omega (arith, r .drawn .drawn 0 (r .some) .short, line-length (keyIn body) 0)
 
--- a step of one key that was found, and that there is none
-pub record Hit (asked s : Key) (number u : ℕ) (t : Taken) : Type 0 where
-  pub key : t .key ≡ number
-  pub node : t .node ≤ u
-  pub below : u < t .spot
-  pub firing : T (firesBy asked s (t .node) (t .branch) (t .spot))
+pub record NoneBranch (asked s : Key) (u j : ℕ) : Type 0 where
+  pub none : (k : ℕ) → u < k → (k ≤ tOf asked → j ≡ 0) → k ≤ length (lineOf asked j) → NoneAt asked s u j k
 
-pub record NoneBranch (asked s : Key) (u i j : ℕ) : Type 0 where
-  pub none : (k : ℕ) → u < k → (k ≤ tOf asked → j ≡ 0) → k ≤ length (lineOf asked j) → firesBy asked s i j k ≡ false
-
-pub record NoneTo (asked s : Key) (u i : ℕ) : Type 0 where
-  pub none : (j : ℕ) → j < length (asked .paths) → NoneBranch asked s u i j
-
-pub record NoneOf (asked : Key) (u : ℕ) (s : Key) : Type 0 where
-  pub none : (i : ℕ) → i ≤ u → NoneTo asked s u i
+pub record NoneOf (asked s : Key) (u : ℕ) : Type 0 where
+  pub none : (j : ℕ) → j < length (asked .paths) → NoneBranch asked s u j
 
 -- the branches before j are passed
-pub record Sweeping (asked s : Key) (u i below n j from : ℕ) : Type 0 where
+pub record Sweeping (asked s : Key) (u below n j from : ℕ) : Type 0 where
   pub number : n ≡ length (asked .paths)
   pub within : j ≤ n
   pub bottom : below ≡ tOf asked + 1
-  pub met : T (member (s .context) (take i (lineOf asked 0)))
   pub after : u < from
   pub starts : (k : ℕ) → u < k → (k ≤ tOf asked → j ≡ 0) → from ≤ k
-  pub none : (x : ℕ) → x < j → NoneBranch asked s u i x
+  pub none : (x : ℕ) → x < j → NoneBranch asked s u x
 
-module _ {body lines key : List ℕ} {i u : ℕ} (o : ToNode body lines key i u) where
-  pub to-has : HasLine lines 0
-  to-has = drawn-has (o .ofKey .ready .drawn) (o .ofKey .ready .some)
+pub sweeping-start : (asked s : Key) (u : ℕ) {t : ℕ} → t ≡ tOf asked → {n : ℕ} → n ≡ length (asked .paths) → Sweeping asked s u (t + 1) n 0 (u + 1)
+sweeping-start asked s u c d =
+    record {
+      number = d;
+      within = omega arith;
+      bottom = ap (λ (x : ℕ). x + 1) c;
+      after = omega arith;
+      starts = λ k a b. omega arith;
+      none = λ x a. absurd (omega arith);
+    }
 
-  onChain : i ≤ tOf (keyIn body)
-  onChain = omega (arith, o .node, o .ofKey .ready .above)
+module _ {body lines key : List ℕ} {u : ℕ} (o : OfKey body lines key u) {below n j from : ℕ} (s : Sweeping (keyIn body) (keyIn key) u below n j from) where
+  pub sweeping-branch : j < n → OnBranch body lines key j from u
+  sweeping-branch h =
+      record {
+        isAsked = o .ready .isAsked;
+        drawn = o .ready .drawn;
+        isKey = o .isKey;
+        branch = omega (arith, s .number);
+        above = o .ready .above;
+        after = s .after;
+      }
 
-  module _ {line : List ℕ} (e : line ≡ lineIn lines 0) where
-    is : line ≡ lineOf (keyIn body) 0
-    is = drawn-is (o .ofKey .ready .drawn) (o .ofKey .ready .some) e
+  pub sweeping-next : j < n → NoneOn (keyIn body) (keyIn key) u j from → Sweeping (keyIn body) (keyIn key) u below n (j + 1) below
+  sweeping-next h m =
+      record {
+        number = s .number;
+        within = omega arith;
+        bottom = s .bottom;
+        after = omega (arith, s .bottom, o .ready .above);
+        starts = λ k a b. go k b (less-or (tOf (keyIn body)) k);
+        none = below-more _ j (s .none) (record { none = λ k a b d. m .none k (s .starts k a b) d });
+      }
+    where
+      go : (k : ℕ) → (k ≤ tOf (keyIn body) → j + 1 ≡ 0) → (tOf (keyIn body) < k) ⊎ (k ≤ tOf (keyIn body)) → below ≤ k
+      go k b (inl l) = omega (arith, s .bottom)
+      go k b (inr l) = absurd (omega (arith, b l))
 
-    pub to-within : i ≤ length line
-    to-within = omega (arith, ap length is, line-length (keyIn body) 0, onChain)
-
-    module _ {p : List ℕ} (q : p ≡ keyIn key .context) {r : Bool} (m : r ≡ member p (take i line)) where
-      context-is : member (keyIn key .context) (take i (lineOf (keyIn body) 0)) ≡ r
-      context-is = sym (m ∙ ap (λ (c : List ℕ). member c (take i line)) q ∙ ap (λ (l : List ℕ). member (keyIn key .context) (take i l)) is)
-
-      pub to-not : not r ≡ true → NoneTo (keyIn body) (keyIn key) u i
-      to-not n = record { none = λ j h. record { none = λ k a b d. false-of _ (λ f. unmet j (fires-parts (keyIn body) (keyIn key) i j k f .0)) } }
-        where
-          unmet : (j : ℕ) → T (member (keyIn key .context) (take i (lineOf (keyIn body) j))) → ⊥
-          unmet j t =
-              of-false _ (context-is ∙ not-true _ n)
-              (subst (λ (l : List ℕ). T (member (keyIn key .context) l)) (line-shared (keyIn body) j 0 i onChain) t)
-
-      pub sweeping-start : not r ≡ false → {t : ℕ} → t ≡ tOf (keyIn body) → {n : ℕ} → n ≡ length (keyIn body .paths)
-          → Sweeping (keyIn body) (keyIn key) u i (t + 1) n 0 (u + 1)
-      sweeping-start f c d =
-          record {
-            number = d;
-            within = omega arith;
-            bottom = ap (λ (x : ℕ). x + 1) c;
-            met = of-true _ (context-is ∙ not-false _ f);
-            after = omega arith;
-            starts = λ k a b. omega arith;
-            none = λ x a. absurd (omega arith);
-          }
-
-  module _ {below n j from : ℕ} (s : Sweeping (keyIn body) (keyIn key) u i below n j from) where
-    pub sweeping-branch : j < n → OnBranch body lines key i j from
-    sweeping-branch h =
-        record {
-          isAsked = o .ofKey .ready .isAsked;
-          drawn = o .ofKey .ready .drawn;
-          isKey = o .ofKey .isKey;
-          branch = omega (arith, s .number);
-          above = omega (arith, s .after, o .node);
-          onChain = onChain;
-          context = subst (λ (l : List ℕ). T (member (keyIn key .context) l)) (line-shared (keyIn body) 0 j i onChain) (s .met);
-        }
-
-    pub sweeping-hit : {number : ℕ} {t : Taken} → HitOn (keyIn body) (keyIn key) number i j from t → Hit (keyIn body) (keyIn key) number u t
-    sweeping-hit h =
-        record {
-          key = h .key;
-          node = omega (arith, h .node, o .node);
-          below = omega (arith, h .below, s .after);
-          firing = h .firing;
-        }
-
-    pub sweeping-next : j < n → NoneOn (keyIn body) (keyIn key) i j from → Sweeping (keyIn body) (keyIn key) u i below n (j + 1) below
-    sweeping-next h m =
-        record {
-          number = s .number;
-          within = omega arith;
-          bottom = s .bottom;
-          met = s .met;
-          after = omega (arith, s .bottom, o .ofKey .ready .above);
-          starts = λ k a b. go k b (less-or (tOf (keyIn body)) k);
-          none = below-more _ j (s .none) (record { none = λ k a b d. m .none k (s .starts k a b) d });
-        }
-      where
-        go : (k : ℕ) → (k ≤ tOf (keyIn body) → j + 1 ≡ 0) → (tOf (keyIn body) < k) ⊎ (k ≤ tOf (keyIn body)) → below ≤ k
-        go k b (inl l) = omega (arith, s .bottom)
-        go k b (inr l) = absurd (omega (arith, b l))
-
-    pub sweeping-done : n ≤ j → NoneTo (keyIn body) (keyIn key) u i
-    sweeping-done h = record { none = λ x a. s .none x (omega (arith, s .number)) }
-
--- the chain nodes above i are passed
-pub record Climbing (asked s : Key) (u i : ℕ) : Type 0 where
-  pub within : i ≤ u + 1
-  pub none : (x : ℕ) → x < i → NoneTo asked s u x
-
-pub climbing-start : (asked s : Key) (u : ℕ) → Climbing asked s u 0
-climbing-start asked s u = record { within = omega arith; none = λ x a. absurd (omega arith) }
-
-module _ {asked s : Key} {u i : ℕ} (c : Climbing asked s u i) where
-  pub climbing-next : i ≤ u → NoneTo asked s u i → Climbing asked s u (i + 1)
-  climbing-next h m = record { within = omega arith; none = below-more _ i (c .none) m }
-
-  pub climbing-done : u < i → NoneOf asked u s
-  climbing-done h = record { none = λ x a. c .none x (omega arith) }
-
-pub climbing-node : {body lines key : List ℕ} {u i : ℕ} → OfKey body lines key u → i ≤ u → ToNode body lines key i u
-climbing-node o h = record { ofKey = o; node = h }
+  pub sweeping-done : n ≤ j → NoneOf (keyIn body) (keyIn key) u
+  sweeping-done h = record { none = λ x a. s .none x (omega (arith, s .number)) }
 
 -- the profile's keys
 unfoldable pub stepOf : Taken → Step
@@ -196,7 +120,7 @@ fires-key profile labels keys asked t h = ap (firesFound asked t) (keys-found pr
 pub record Walking (profile : List ℕ) (labels keys : ℕ) (body : List ℕ) (u number : ℕ) (rest : List ℕ) : Type 0 where
   pub here : rest ≡ recordsFrom (labels + number) profile
   pub within : number ≤ keys
-  pub none : (x : ℕ) → x < number → NoneOf (keyIn body) u (keyAt profile (labels + x))
+  pub none : (x : ℕ) → x < number → NoneOf (keyIn body) (keyAt profile (labels + x)) u
 
 pub walking-start : (profile : List ℕ) (labels keys : ℕ) (body : List ℕ) (u : ℕ) {rest : List ℕ} → rest ≡ recordsFrom labels profile
     → Walking profile labels keys body u 0 rest
@@ -238,7 +162,7 @@ module _ {profile : List ℕ} {labels keys : ℕ} {body lines : List ℕ} {u : �
             (subst (λ (s : Key). T (firesBy (keyIn body) s (t .node) (t .branch) (t .spot)))
             (key-is ∙ ap (λ (n : ℕ). keyAt profile (labels + n)) (sym (f .key))) (f .firing))
 
-    pub walking-next : NoneOf (keyIn body) u (keyIn (take (end - 4) (drop 4 rest))) → {next : List ℕ} → next ≡ take (length rest - end) (drop end rest)
+    pub walking-next : NoneOf (keyIn body) (keyIn (take (end - 4) (drop 4 rest))) u → {next : List ℕ} → next ≡ take (length rest - end) (drop end rest)
         → Walking profile labels keys body u (number + 1) next
     walking-next m q =
         record {
@@ -246,7 +170,7 @@ module _ {profile : List ℕ} {labels keys : ℕ} {body lines : List ℕ} {u : �
               q ∙ part-to-end rest end ∙ ap (λ (n : ℕ). drop n rest) e ∙ ap (λ (l : List ℕ). drop (recordLength l) l) (w .here)
               ∙ sym (records-next (labels + number) profile) ∙ ap (λ (n : ℕ). recordsFrom n profile) (omega arith);
           within = omega arith;
-          none = below-more _ number (w .none) (subst (NoneOf (keyIn body) u) key-is m);
+          none = below-more _ number (w .none) (subst (λ (s : Key). NoneOf (keyIn body) s u) key-is m);
         }
 
   pub walking-done : keys ≤ number → NoneLeft profile labels keys body u
@@ -256,5 +180,5 @@ module _ {profile : List ℕ} {labels keys : ℕ} {body lines : List ℕ} {u : �
             λ t r.
             let k : t .key < keys = omega (arith, r .key, keys-length profile labels keys) in
             fires-key profile labels keys (keyIn body) t k
-            ∙ w .none (t .key) (omega arith) .none (t .node) (r .node) .none (t .branch) (r .branch) .none (t .spot) (r .below) (r .first) (r .onLine);
+            ∙ w .none (t .key) (omega arith) .none (t .branch) (r .branch) .none (t .spot) (r .below) (r .first) (r .onLine) .none (t .node) (r .node);
       }

@@ -1,5 +1,5 @@
 // "a profile key s lets (j, k) step to chain node i (i ≤ k, i ≤ n) when ..": the first step in the ranges of the loops, a function for each
-// loop. A context is tested once for each key and node.
+// loop. Landings do not depend on the node, and most spots have none: they are tested once for each key and spot, before the nodes.
 use landings::all_land;
 use landings::chain_end;
 use paths::member;
@@ -12,8 +12,9 @@ use shapes::keys::count;
 use shapes::keys::target;
 ghost use mathlib.Core.Path.{_≡_};
 ghost use Rattle.meaning.specs.Records.{keyIn};
-ghost use Rattle.steps.specs.Firing.{firesFrom, FromNode, OnBranch, Sought, HitOn, NoneOn};
-ghost use Rattle.steps.specs.Ranges.{ToNode, OfKey, OfKeys, Hit, NoneTo, NoneOf, HitKeys, NoneLeft};
+ghost use Rattle.pattern_lines.specs.Drawn.{lineIn};
+ghost use Rattle.steps.specs.Firing.{firesIn, OnPart, AtSpot, OnBranch, Sought, Hit, NoneAt, NoneOn};
+ghost use Rattle.steps.specs.Ranges.{OfKey, OfKeys, NoneOf, HitKeys, NoneLeft};
 
 // A remembered step: profile key number `key` lets spot (branch, spot) step to chain node `node`.
 pub struct Taken {
@@ -29,35 +30,37 @@ pub enum Fire {
     None,
 }
 
-// The target and the key paths of a step, its context apart.
-fn fires_from(asked: &[u8], lines: &[u8], key: &[u8], i: usize, j: usize, k: usize) -> bool
-    requires { ⌜ FromNode (now asked) (now lines) (now key) i j k ⌝ }
-    ensures { λ r. ⌜ r ≡ firesFrom (keyIn (now (asked .entry))) (keyIn (now (key .entry))) i j k ⌝ }
+// The context and the target of a step, its landing apart.
+fn fires_to(lines: &[u8], key: &[u8], i: usize, j: usize, k: usize) -> bool
+    requires { ⌜ OnPart (now lines) (now key) i j k ⌝ }
+    ensures { λ r. ⌜ r ≡ firesIn (keyIn (now (key .entry))) (lineIn (now (lines .entry)) j) i k ⌝ }
 {
     let symbols = line(lines, j);
     if !member(&symbols[i..k], target(key)) {
         return false;
     }
-    all_land(asked, lines, key, j, k)
+    member(&symbols[..i], context(key))
 }
 
-// The first spot of branch j, from one spot on, that the key lets step to node i.
-fn fire_on(
+// The first chain node, down to u, that the key lets spot (j, k) step to.
+fn fire_at(
     asked: &[u8],
     lines: &[u8],
     key: &[u8],
     number: usize,
-    i: usize,
     j: usize,
-    from: usize,
+    k: usize,
+    u: usize,
 ) -> Fire
-    requires { ⌜ OnBranch (now asked) (now lines) (now key) i j from ⌝ }
-    ensures { λ r. ⌜ Sought (HitOn (keyIn (now (asked .entry))) (keyIn (now (key .entry))) number i j from) (NoneOn (keyIn (now (asked .entry))) (keyIn (now (key .entry))) i j from) r ⌝ }
+    requires { ⌜ AtSpot (now asked) (now lines) (now key) j k u ⌝ }
+    ensures { λ r. ⌜ Sought (Hit (keyIn (now (asked .entry))) (keyIn (now (key .entry))) number u) (NoneAt (keyIn (now (asked .entry))) (keyIn (now (key .entry))) u j k) r ⌝ }
 {
-    let end = line(lines, j).len();
-    let mut k = from;
-    while k <= end {
-        if fires_from(asked, lines, key, i, j, k) {
+    if !all_land(asked, lines, key, j, k) {
+        return Fire::None;
+    }
+    let mut i = 0;
+    while i <= u {
+        if fires_to(lines, key, i, j, k) {
             return Fire::At(Taken {
                 key: number,
                 node: i,
@@ -65,47 +68,52 @@ fn fire_on(
                 spot: k,
             });
         }
+        i += 1;
+    }
+    Fire::None
+}
+
+// The first step of the key from branch j, from one spot on.
+fn fire_on(
+    asked: &[u8],
+    lines: &[u8],
+    key: &[u8],
+    number: usize,
+    j: usize,
+    from: usize,
+    u: usize,
+) -> Fire
+    requires { ⌜ OnBranch (now asked) (now lines) (now key) j from u ⌝ }
+    ensures { λ r. ⌜ Sought (Hit (keyIn (now (asked .entry))) (keyIn (now (key .entry))) number u) (NoneOn (keyIn (now (asked .entry))) (keyIn (now (key .entry))) u j from) r ⌝ }
+{
+    let end = line(lines, j).len();
+    let mut k = from;
+    while k <= end {
+        let found = fire_at(asked, lines, key, number, j, k, u);
+        if let Fire::At(taken) = found {
+            return Fire::At(taken);
+        }
         k += 1;
     }
     Fire::None
 }
 
-// The first spot below u that the key lets step to node i. Down to t one branch stands for all.
-fn fire_to(asked: &[u8], lines: &[u8], key: &[u8], number: usize, i: usize, u: usize) -> Fire
-    requires { ⌜ ToNode (now asked) (now lines) (now key) i u ⌝ }
-    ensures { λ r. ⌜ Sought (Hit (keyIn (now (asked .entry))) (keyIn (now (key .entry))) number u) (NoneTo (keyIn (now (asked .entry))) (keyIn (now (key .entry))) u i) r ⌝ }
+// The first step of one key from below u to u or above. Down to t one branch stands for all.
+fn fire_of(asked: &[u8], lines: &[u8], key: &[u8], number: usize, u: usize) -> Fire
+    requires { ⌜ OfKey (now asked) (now lines) (now key) u ⌝ }
+    ensures { λ r. ⌜ Sought (Hit (keyIn (now (asked .entry))) (keyIn (now (key .entry))) number u) (NoneOf (keyIn (now (asked .entry))) (keyIn (now (key .entry))) u) r ⌝ }
 {
-    let symbols = line(lines, 0);
-    if !member(&symbols[..i], context(key)) {
-        return Fire::None;
-    }
     let below = chain_end(asked) + 1;
     let n = count(asked);
     let mut from = u + 1;
     let mut j = 0;
     while j < n {
-        let found = fire_on(asked, lines, key, number, i, j, from);
+        let found = fire_on(asked, lines, key, number, j, from, u);
         if let Fire::At(taken) = found {
             return Fire::At(taken);
         }
         from = below;
         j += 1;
-    }
-    Fire::None
-}
-
-// The first step of one key to u or above.
-fn fire_of(asked: &[u8], lines: &[u8], key: &[u8], number: usize, u: usize) -> Fire
-    requires { ⌜ OfKey (now asked) (now lines) (now key) u ⌝ }
-    ensures { λ r. ⌜ Sought (Hit (keyIn (now (asked .entry))) (keyIn (now (key .entry))) number u) (NoneOf (keyIn (now (asked .entry))) u (keyIn (now (key .entry)))) r ⌝ }
-{
-    let mut i = 0;
-    while i <= u {
-        let found = fire_to(asked, lines, key, number, i, u);
-        if let Fire::At(taken) = found {
-            return Fire::At(taken);
-        }
-        i += 1;
     }
     Fire::None
 }

@@ -5,7 +5,7 @@ use mathlib.Core.Path.{_≡_, refl, sym, ap, subst, _∙_}
 use mathlib.Core.Logic.{_⊎_, inl, inr, ⊎-elim}
 use mathlib.Core.List.{List, [], _∷_, _++_}
 use native.Mathlib.Omega.{arith}
-use lib.ListN.{length, getD, drop}
+use lib.ListN.{length, drop}
 use Rattle.meaning.specs.Limits.{inProfile}
 use Rattle.meaning.specs.Lists.{Each}
 use Rattle.meaning.specs.Keys.{Key}
@@ -21,8 +21,8 @@ use Rattle.theory_records.specs.Profiles.{profile-long, next-label, next-key, l
 use Rattle.theory_records.specs.Questions.{question-accepts}
 use Rattle.theory_records.specs.Bodies.{records-next}
 use Rattle.theory_derive.specs.Logic.{less-or, getD-mem}
-use Rattle.theory_derive.specs.Spots.{Taken, Chain, fires}
-use Rattle.theory_derive.specs.Ranges.{InRange, none-left}
+use Rattle.theory_derive.specs.Spots.{Chain}
+use Rattle.theory_derive.specs.Ranges.{none-left}
 use Rattle.theory_derive.specs.Lowest.{chain-is-u}
 use Rattle.pattern_lines.specs.Drawn.{Asked}
 use Rattle.steps.specs.declared.search.Found.{Found}

@@ -1,3 +1,4 @@
+-- `landings::all_land` meets its contract. Assumes nothing.
 use Prim.Native.Nat.{_-_}
 use Rattle.meaning.specs.Records.{keyIn}
 use Rattle.theory_derive.specs.Spots.{lands}
@@ -6,13 +7,6 @@ use borrow.Author.Needs.{needs}
 use native.Mathlib.Omega.{arith}
 use Rattle.landings.proofs.all_land.Statement.{statement}
 use Rattle.landings.proofs.all_land.Tie as tie
-use Rattle.landings.proofs.all_land.Reads as reads
-use Rattle.landings.proofs.all_land.Lts as lts
-use Rattle.landings.proofs.lands.Reads as lands-reads
-use Rattle.shapes.proofs.bodies.after_path.Reads as after-path-reads
-use Rattle.shapes.proofs.bodies.lead_path.Reads as lead-path-reads
-use Rattle.shapes.proofs.keys.count.Reads as count-reads
-use Rattle.shapes.proofs.keys.paths.Reads as paths-reads
 
 abbrev Inv-loop : tie.InvT-loop
 Inv-loop asked lines key j k n rest₀ i₀ rest i = Round (lands (keyIn asked) j k) (keyIn key .paths) n i rest

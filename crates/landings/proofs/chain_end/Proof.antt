@@ -1,12 +1,8 @@
+-- `landings::chain_end` meets its contract: the laws of specs/Landing. Assumes nothing.
 use Rattle.landings.specs.Landing.{chain-end}
-use native.Mathlib.Omega.{arith}
 use borrow.Author.Needs.{needs}
 use Rattle.landings.proofs.chain_end.Statement.{statement}
 use Rattle.landings.proofs.chain_end.Tie as tie
-use Rattle.landings.proofs.chain_end.Reads as reads
-use Rattle.landings.proofs.chain_end.Lts as lts
-use Rattle.shapes.proofs.keys.context.Reads as context-reads
-use Rattle.shapes.proofs.keys.target.Reads as target-reads
 
 -- src/lib.rt:26:9
 context-requires : tie.Need-context-requires

@@ -1,14 +1,8 @@
+-- `landings::lands` meets its contract: the laws of specs/Landing. Assumes nothing.
 use Rattle.landings.specs.Landing.{spot-chain, spot-has, spot-on, lands-some, lands-branch}
-use native.Mathlib.Omega.{arith}
 use borrow.Author.Needs.{needs}
 use Rattle.landings.proofs.lands.Statement.{statement}
 use Rattle.landings.proofs.lands.Tie as tie
-use Rattle.landings.proofs.lands.Reads as reads
-use Rattle.landings.proofs.lands.Lts as lts
-use Rattle.landings.proofs.chain_end.Reads as chain-end-reads
-use Rattle.landings.proofs.lands_in.Reads as lands-in-reads
-use Rattle.landings.proofs.lands_some.Reads as lands-some-reads
-use Rattle.pattern_lines.proofs.line.Reads as line-reads
 
 -- src/lib.rt:82:13
 chain-end-requires : tie.Need-chain-end-requires

@@ -1,12 +1,8 @@
+-- `landings::lands_in` meets its contract: the laws of specs/Landing. Assumes nothing.
 use Rattle.landings.specs.Landing.{lands-short, lands-other, lands-mark}
-use native.Mathlib.Omega.{arith}
 use borrow.Author.Needs.{needs}
 use Rattle.landings.proofs.lands_in.Statement.{statement}
 use Rattle.landings.proofs.lands_in.Tie as tie
-use Rattle.landings.proofs.lands_in.Reads as reads
-use Rattle.landings.proofs.lands_in.Lts as lts
-use Rattle.landings.proofs.marked.Reads as marked-reads
-use Rattle.paths.proofs.same.Reads as same-reads
 
 -- src/lib.rt:50:8
 sub-if1 : tie.Need-sub-if1

@@ -1,3 +1,4 @@
+-- `landings::lands_some` meets its contract: the laws of specs/Landing. Assumes nothing.
 use Prim.Native.Nat.{_-_}
 use lib.ListN.{length}
 use Rattle.meaning.specs.Records.{keyIn}
@@ -7,11 +8,6 @@ use borrow.Author.Needs.{needs}
 use native.Mathlib.Omega.{arith}
 use Rattle.landings.proofs.lands_some.Statement.{statement}
 use Rattle.landings.proofs.lands_some.Tie as tie
-use Rattle.landings.proofs.lands_some.Reads as reads
-use Rattle.landings.proofs.lands_some.Lts as lts
-use Rattle.landings.proofs.lands_in.Reads as lands-in-reads
-use Rattle.pattern_lines.proofs.line.Reads as line-reads
-use Rattle.shapes.proofs.keys.count.Reads as count-reads
 
 abbrev Inv-loop : tie.InvT-loop
 Inv-loop asked lines path k n j₀ j = Sweep (landsOn (keyIn asked) k path) (length (keyIn asked .paths)) n j

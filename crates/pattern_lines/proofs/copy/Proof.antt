@@ -1,12 +1,10 @@
+-- `pattern_lines::copy` meets its contract: the laws of specs/Copies. Assumes nothing.
 use Prim.Native.Nat.{_-_}
 use lib.ListN.{length}
 use Rattle.pattern_lines.specs.Copies.{Copying, copying-start, copying-more, copying-end}
 use native.Mathlib.Omega.{arith}
-use borrow.Author.Needs.{needs}
 use Rattle.pattern_lines.proofs.copy.Statement.{statement}
 use Rattle.pattern_lines.proofs.copy.Tie as tie
-use Rattle.pattern_lines.proofs.copy.Reads as reads
-use Rattle.pattern_lines.proofs.copy.Lts as lts
 
 abbrev Inv-loop : tie.InvT-loop
 Inv-loop lines₀ at run i₀ lines i = Copying lines₀ at run i lines

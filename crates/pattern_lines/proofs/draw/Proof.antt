@@ -1,3 +1,4 @@
+-- `pattern_lines::draw` meets its contract: the laws of specs/Drawn. Assumes nothing.
 use Prim.Native.Nat.{_-_}
 use mathlib.Core.Path.{refl}
 use Rattle.pattern_lines.specs.Drawn.{Drawing, drawing-start, drawing-holds, drawing-writes, drawing-more, drawing-end}
@@ -5,13 +6,6 @@ use native.Mathlib.Omega.{arith}
 use borrow.Author.Needs.{needs}
 use Rattle.pattern_lines.proofs.draw.Statement.{statement}
 use Rattle.pattern_lines.proofs.draw.Tie as tie
-use Rattle.pattern_lines.proofs.draw.Reads as reads
-use Rattle.pattern_lines.proofs.draw.Lts as lts
-use Rattle.pattern_lines.proofs.write_line.Reads as write-line-reads
-use Rattle.shapes.proofs.bodies.after_path.Reads as after-path-reads
-use Rattle.shapes.proofs.bodies.lead_path.Reads as lead-path-reads
-use Rattle.shapes.proofs.keys.count.Reads as count-reads
-use Rattle.shapes.proofs.keys.paths.Reads as paths-reads
 
 abbrev Inv-loop : tie.InvT-loop
 Inv-loop asked lines₀ n rest₀ j₀ lines rest j = Drawing asked n j rest lines

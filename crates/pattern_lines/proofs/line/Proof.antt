@@ -1,11 +1,8 @@
+-- `pattern_lines::line` meets its contract: the laws of specs/Drawn. Assumes nothing.
 use Rattle.pattern_lines.specs.Drawn.{line-holds, line-read}
-use native.Mathlib.Omega.{arith}
 use borrow.Author.Needs.{needs}
 use Rattle.pattern_lines.proofs.line.Statement.{statement}
 use Rattle.pattern_lines.proofs.line.Tie as tie
-use Rattle.pattern_lines.proofs.line.Reads as reads
-use Rattle.pattern_lines.proofs.line.Lts as lts
-use Rattle.shapes.proofs.bodies.lead_path.Reads as lead-path-reads
 
 -- src/lib.rt:74:14
 mul-at : tie.Need-mul-at

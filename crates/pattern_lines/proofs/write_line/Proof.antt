@@ -1,14 +1,10 @@
+-- `pattern_lines::write_line` meets its contract: the laws of specs/Drawn. Assumes nothing.
 use mathlib.Core.Path.{refl}
 use Rattle.pattern_lines.specs.Drawn.{parts-short, room-context, room-target, room-path, write-all}
 use native.Mathlib.Omega.{arith}
 use borrow.Author.Needs.{needs}
 use Rattle.pattern_lines.proofs.write_line.Statement.{statement}
 use Rattle.pattern_lines.proofs.write_line.Tie as tie
-use Rattle.pattern_lines.proofs.write_line.Reads as reads
-use Rattle.pattern_lines.proofs.write_line.Lts as lts
-use Rattle.pattern_lines.proofs.copy.Reads as copy-reads
-use Rattle.shapes.proofs.keys.context.Reads as context-reads
-use Rattle.shapes.proofs.keys.target.Reads as target-reads
 
 -- src/lib.rt:40:9
 context-requires : tie.Need-context-requires

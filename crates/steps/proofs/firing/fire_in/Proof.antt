@@ -1,3 +1,4 @@
+-- `steps::firing::fire_in` meets its contract: the laws of specs/Firing, specs/Ranges. Assumes nothing.
 use mathlib.Core.Path.{refl}
 use Prim.Native.Nat.{_-_}
 use native.Mathlib.Omega.{arith}
@@ -6,11 +7,6 @@ use Rattle.steps.specs.Firing.{found, missed, sought-at, sought-none}
 use Rattle.steps.specs.Ranges.{Walking, walking-start, walking-long, walking-key, walking-hit, walking-next, walking-done}
 use Rattle.steps.proofs.firing.fire_in.Statement.{statement}
 use Rattle.steps.proofs.firing.fire_in.Tie as tie
-use Rattle.steps.proofs.firing.fire_in.Reads as reads
-use Rattle.steps.proofs.firing.fire_in.Lts as lts
-use Rattle.places.proofs.front_length.Reads as front-length-reads
-use Rattle.places.proofs.record_at.Reads as record-at-reads
-use Rattle.steps.proofs.firing.fire_of.Reads as fire-of-reads
 
 abbrev Inv-loop : tie.InvT-loop
 Inv-loop profile labels keys asked lines u rest₀ number₀ rest number = Walking profile labels keys asked u number rest

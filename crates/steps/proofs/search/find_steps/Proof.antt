@@ -1,3 +1,4 @@
+-- `steps::search::find_steps` meets its contract: the laws of specs/Finding, specs/Firing. Assumes nothing.
 use Prim.Native.Nat.{_-_}
 use mathlib.Core.Path.{refl, sym}
 use native.Mathlib.Omega.{arith}
@@ -6,13 +7,6 @@ use Rattle.steps.specs.Firing.{sought-at, sought-none}
 use Rattle.steps.specs.Finding.{Taking, taking-start, taking-keys, taking-room, taking-next, taking-none, taking-end}
 use Rattle.steps.proofs.search.find_steps.Statement.{statement}
 use Rattle.steps.proofs.search.find_steps.Tie as tie
-use Rattle.steps.proofs.search.find_steps.Reads as reads
-use Rattle.steps.proofs.search.find_steps.Lts as lts
-use Rattle.landings.proofs.chain_end.Reads as chain-end-reads
-use Rattle.pattern_lines.proofs.draw.Reads as draw-reads
-use Rattle.shapes.proofs.keys.context.Reads as context-reads
-use Rattle.steps.proofs.firing.fire_in.Reads as fire-in-reads
-use Rattle.steps.proofs.search.least.Reads as least-reads
 
 abbrev Inv-loop : tie.InvT-loop
 Inv-loop profile labels keys asked lines t u₀ count₀ steps₀ u count steps = Taking profile labels keys asked t u count steps
