@@ -1,8 +1,8 @@
 // The class of each node: "the smallest node equal to it, found among earlier nodes of the same weight by `node_eq`"; and the next node of its class.
 use tree_equal::node_eq;
 use tree_nodes::fields::size;
-use tree_nodes::links::at;
-use tree_nodes::links::blank;
+use tree_nodes::links::{at, blank};
+
 ghost use mathlib.Core.Path.{_≡_};
 ghost use mathlib.Core.Bool.{Bool};
 ghost use Prim.Native.Nat.{ℕ, _<_, _≤_};

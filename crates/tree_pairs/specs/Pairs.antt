@@ -60,12 +60,12 @@ module _ (κ : ℕ → Class) (t : Table) (class : List ℕ) (classed : Classed 
             node = p .x;
             down = dx;
             holds = record {
-              hit = record {
-                node = p .y;
-                down = dy;
-                holds = record { is = sym (classed .equal (p .x) (p .y) (down-inside dx ia) (down-inside dy ib) (p .equal)) };
-              };
-            };
+                  hit = record {
+                        node = p .y;
+                        down = dy;
+                        holds = record { is = sym (classed .equal (p .x) (p .y) (down-inside dx ia) (down-inside dy ib) (p .equal)) };
+                      };
+                };
           }
 
 -- each of a list, by their numbers

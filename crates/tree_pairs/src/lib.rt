@@ -1,10 +1,10 @@
 // Value-equal pairs below two nodes (document 01, "A tree keeps the key if .. some P in S has no value-equal pair x, y with x reached from a and y
 // from b by P"). Key paths are simple, so each is gone down label by label along the child links.
 use shapes::fields::wide;
-use shapes::keys::count;
-use shapes::keys::path;
+use shapes::keys::{count, path};
 use tree_nodes::fields::label;
 use tree_nodes::links::at;
+
 ghost use mathlib.Core.Path.{_≡_};
 ghost use mathlib.Core.Bool.{Bool, true};
 ghost use Prim.Native.Nat.{_<_, _≤_};
@@ -77,17 +77,7 @@ fn agree(
     let mut child = at(first, x);
     while child != 0 {
         if label(tree, child) == symbol {
-            if agree(
-                tree,
-                classes,
-                first,
-                next,
-                class,
-                child,
-                &rest[1..],
-                b,
-                whole,
-            ) {
+            if agree(tree, classes, first, next, class, child, &rest[1..], b, whole) {
                 return true;
             }
             child = at(next, child);

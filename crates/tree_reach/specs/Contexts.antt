@@ -125,11 +125,11 @@ module _ (t : Table) (marks : List Bool) (target : List ℕ) (a b : ℕ) where
       let m = d .yes e in
       record {
         yes = λ h. record {
-          inside = s .inside;
-          marked = m .marked;
-          first = record { run = run; down = s .down; word = m .word };
-          second = m .second;
-        };
+              inside = s .inside;
+              marked = m .marked;
+              first = record { run = run; down = s .down; word = m .word };
+              second = m .second;
+            };
         no = λ h. absurd (true≢false h);
       }
 

@@ -1,9 +1,8 @@
 // Reach by climbing (document 01, "Trees, paths and keys"): "Node w is reached from v by a path if the labels below v down to and including w
 // form a word of it." The run of labels is written into a lent buffer from its end on, and `paths::member` says whether it is a word.
+use tree_nodes::fields::{label, parent, size};
 use paths::member;
-use tree_nodes::fields::label;
-use tree_nodes::fields::parent;
-use tree_nodes::fields::size;
+
 ghost use mathlib.Core.Path.{_≡_};
 ghost use mathlib.Core.Bool.{Bool};
 ghost use Prim.Native.Nat.{_<_, _≤_};
@@ -14,14 +13,7 @@ ghost use Rattle.tree_nodes.specs.Decides.{Decides};
 ghost use Rattle.tree_reach.specs.Contexts.{Marked, Meets, MetBy};
 
 // The run's buffer holds 4,096 labels: no node lies deeper.
-pub fn reached(
-    tree: &[u8],
-    classes: &[u8; 256],
-    v: usize,
-    path: &[u8],
-    w: usize,
-    run: &mut [u8],
-) -> bool
+pub fn reached(tree: &[u8], classes: &[u8; 256], v: usize, path: &[u8], w: usize, run: &mut [u8]) -> bool
     requires { ⌜ TreeBytes (now classes) (now tree) × (length (now run) ≡ 4096) ⌝ }
     requires { ⌜ (v < fileTable (now tree) .size) × (w < fileTable (now tree) .size) ⌝ }
     ensures { λ r. ⌜ Decides (Reached (fileTable (now (tree .entry))) v (now (path .entry)) w) r ⌝ }
@@ -109,16 +101,10 @@ pub fn common_context(
     let mut i = run.len();
     loop {
         if meets(tree, classes, marks, target, node, &run[i..], b, other) {
-            return Met {
-                found: true,
-                at: node,
-            };
+            return Met { found: true, at: node };
         }
         if node == 0 {
-            return Met {
-                found: false,
-                at: 0,
-            };
+            return Met { found: false, at: 0 };
         }
         i -= 1;
         run[i] = label(tree, node) as u8;

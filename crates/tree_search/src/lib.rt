@@ -1,9 +1,8 @@
 // The search for a broken key (document 01, "A tree keeps the key if ..") over pairs of equal nodes, not over triples of nodes: whether two nodes
 // agree on every key path does not depend on the context, and equal nodes are rare.
 use shapes::fields::wide;
-use tree_nodes::fields::NODES;
-use tree_nodes::fields::label;
-use tree_nodes::fields::parent;
+use tree_nodes::fields::{label, parent, NODES};
+
 ghost use mathlib.Core.Path.{_≡_};
 ghost use mathlib.Core.Bool.{Bool, true};
 ghost use Prim.Native.Nat.{_<_, _≤_};

@@ -92,14 +92,10 @@ loop-less c = let g = c .before .before .before .before .before .before .before 
 -- src/lib.rt:96:5
 loop-again : tie.Need-loop-again Inv-loop μ-loop
 loop-again c = let v = c .before .before .before .before .before .before .before .before .before .before .loop .inv in let p = c .before .before .before .before .before .before .before .before .before .before .before .before .before .before .before .pre in
-    let g = p .0 .0 .above _ (omega arith) (v .4 .inside) in let e = c .parent .ensures .0 in (
-      simp length-set (v .0),
-      c .before .before .before .before .before .before .meets .kept .1 .1 .1 .1 .1 .1 .1 .0 ∙ v .1,
-      omega arith,
-      omega arith,
-      searching-step _ _ _ _ _ (parents-smaller (p .0 .0)) _ _ _ (c .before .before .before .before .before .before .before .before .before .before .loop .i) (c .before .before .before .before .before .before .before .before .before .before .loop .run) _ (c .before .before .if2 .left) (c .parent .ensures .0) (c .before .label .ensures .0) (omega (arith, p .0 .0 .few)) (omega arith) (v .4)
-          (meets-part _ _ _ _ _ _ (c .before .before .before .before .before .before .before .before .before .before .loop .run) (c .before .before .before .before .before .before .before .before .before .before .loop .i) (c .before .before .before .before .before .before .meets .ensures)) (c .before .before .before .if1 .left),
-    )
+    let g = p .0 .0 .above _ (omega arith) (v .4 .inside) in let e = c .parent .ensures .0 in
+    (simp length-set (v .0), c .before .before .before .before .before .before .meets .kept .1 .1 .1 .1 .1 .1 .1 .0 ∙ v .1, omega arith, omega arith,
+    searching-step _ _ _ _ _ (parents-smaller (p .0 .0)) _ _ _ (c .before .before .before .before .before .before .before .before .before .before .loop .i) (c .before .before .before .before .before .before .before .before .before .before .loop .run) _ (c .before .before .if2 .left) (c .parent .ensures .0) (c .before .label .ensures .0) (omega (arith, p .0 .0 .few)) (omega arith) (v .4)
+    (meets-part _ _ _ _ _ _ (c .before .before .before .before .before .before .before .before .before .before .loop .run) (c .before .before .before .before .before .before .before .before .before .before .loop .i) (c .before .before .before .before .before .before .meets .ensures)) (c .before .before .before .if1 .left))
 
 pub common-context-spec : {M : Type 1} → statement M
 common-context-spec =

@@ -53,12 +53,9 @@ loop-less c = let g = c .before .before .before .before .before .before .before 
 -- src/lib.rt:22:5
 loop-again : tie.Need-loop-again Inv-loop μ-loop
 loop-again c = let v = c .before .before .before .loop .inv in let p = c .before .before .before .before .before .before .before .pre in
-    let g = p .0 .0 .above _ (omega arith) (v .3 .inside) in let e = c .parent .ensures .0 in (
-      simp length-set (v .0),
-      omega arith,
-      omega arith,
-      climbing-step _ _ _ (parents-smaller (p .0 .0)) _ _ _ (c .before .before .before .loop .i) (c .before .before .before .loop .run) (c .before .before .loop-test .taken) (c .parent .ensures .0) (c .before .label .ensures .0) (omega (arith, p .0 .0 .few)) (omega arith) (v .3),
-    )
+    let g = p .0 .0 .above _ (omega arith) (v .3 .inside) in let e = c .parent .ensures .0 in
+    (simp length-set (v .0), omega arith, omega arith,
+    climbing-step _ _ _ (parents-smaller (p .0 .0)) _ _ _ (c .before .before .before .loop .i) (c .before .before .before .loop .run) (c .before .before .loop-test .taken) (c .parent .ensures .0) (c .before .label .ensures .0) (omega (arith, p .0 .0 .few)) (omega arith) (v .3))
 
 -- src/lib.rt:28:9
 same-length : tie.Need-same-length Inv-loop μ-loop
