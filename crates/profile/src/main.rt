@@ -19,7 +19,9 @@ const PATH_ROOM: usize = 33;
 const ANSWER_ROOM: usize = 65536;
 
 fn usage() {
-    print(b"usage: profile rewrite PROFILE OUT | profile body PROFILE N | profile include PROFILE PATH PATH\n");
+    print(
+        b"usage: profile rewrite PROFILE OUT | profile body PROFILE N | profile include PROFILE PATH PATH\n",
+    );
 }
 
 fn rewrite() {
@@ -54,7 +56,11 @@ fn include() {
     let symbols = read_argument(3, &mut path);
     let mut other = [0u8; PATH_ROOM];
     let others = read_argument(4, &mut other);
-    let included = checks::inclusions::include(&profile[..length], &path[..symbols], &other[..others]);
+    let included = checks::inclusions::include(
+        &profile[..length],
+        &path[..symbols],
+        &other[..others],
+    );
     match included {
         Inclusion::Included => print(b"included\n"),
         Inclusion::NotIncluded => print(b"not included\n"),
