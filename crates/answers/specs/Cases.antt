@@ -1,9 +1,10 @@
 -- "Where an answer is an enum, a definition gives this paper's number and values for each case of the enum. The promises use that definition."
 use Prim.Native.Nat.{ℕ}
 use mathlib.Core.List.{List, []}
-use Rattle.meaning.specs.Refusals.{sound}
 use Rattle.meaning.specs.Refusals as Table
 use Rattle.meaning.specs.Operations.{Answer, Verdict, refusedBy, plain, rewritten, included, notIncluded, kept, broken, accepted, listed, implied, notImplied}
+use Rattle.judged.specs.declared.Judged.{Judged}
+use Rattle.judged.specs.declared.Judged.the-variants as J
 use Rattle.answers.specs.declared.Refusal.{Refusal}
 use Rattle.answers.specs.declared.Outcome.{Outcome}
 use Rattle.answers.specs.declared.Outcome.the-variants as O
@@ -24,9 +25,10 @@ use Rattle.answers.specs.declared.Deciding.the-variants as D
 abbrev pub meant : Refusal → Table.Refusal
 meant r = record { number = r .number; input = r .input; place = r .place }
 
-abbrev pub inputRefusal : Outcome → Table.Refusal
-inputRefusal O.Fine = sound
-inputRefusal (O.Refused r) = meant r
+-- what reading one input comes to, with the input's number
+abbrev pub outcomeOf : ℕ → Judged → Outcome
+outcomeOf input J.Sound = O.Fine
+outcomeOf input (J.Refused number place) = O.Refused (record { number = number; input = input; place = place })
 
 -- so many bytes used, and the buffer as it is at the end
 abbrev pub usedOf : Verdict → ℕ → List ℕ → Answer

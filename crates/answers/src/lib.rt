@@ -2,8 +2,7 @@
 // verdict, refusal number, input and record, bytes used and the answer buffer at the end. The contracts read through it.
 use judged::Judged;
 ghost use mathlib.Core.Path.{_≡_};
-ghost use Rattle.judged.specs.Answers.{refusalOf};
-ghost use Rattle.answers.specs.Cases.{inputRefusal, meant};
+ghost use Rattle.answers.specs.Cases.{outcomeOf, meant};
 
 // "A refusal returns number, input (1 profile, 2 question, 3 tree or proof, 4 answer buffer) and record number".
 pub struct Refusal {
@@ -71,7 +70,7 @@ pub enum Outcome {
 }
 
 pub fn of_input(judged: Judged, input: usize) -> Outcome
-    ensures { λ r. ⌜ inputRefusal r ≡ refusalOf input judged ⌝ }
+    ensures { λ r. ⌜ r ≡ outcomeOf input judged ⌝ }
 {
     match judged {
         Judged::Sound => Outcome::Fine,

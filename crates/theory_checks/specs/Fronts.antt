@@ -21,6 +21,9 @@ module _ {bytes before now : List ℕ} {i : ℕ} (c : Copied bytes before now i)
   pub copied-room : i < length bytes → i < length now
   copied-room h = let r = c .room in rw (c .is, length-append, length-take, length-drop) (omega arith)
 
+  pub copied-long : length now ≡ length before
+  copied-long = let r = c .room in let w = c .within in rw (c .is, length-append, length-take, length-drop) (omega arith)
+
   pub copied-more : i < length bytes → Copied bytes before (set now i (getD bytes i 0)) (i + 1)
   copied-more h =
       let r = c .room in
@@ -46,10 +49,14 @@ pub front-few : (l : List ℕ) → length l < 4 → recordBody l ≡ []
 unfolding recordBody
 front-few l h = ap (take (recordLength l - 4)) (drop-of-length-le l {i = 4} (omega arith)) ∙ take-nil (recordLength l - 4)
 
-pub front-short : (l : List ℕ) → recordLength l < 4 → recordBody l ≡ []
-unfolding recordBody
-front-short l h = let e : recordLength l - 4 ≡ 0 = omega arith in ap (λ (n : ℕ). take n (drop 4 l)) e
+pub front-short : (l : List ℕ) (n : ℕ) → n ≡ word l 0 → n < 4 → [] ≡ recordBody l
+unfolding recordBody recordLength
+front-short l n e h = let z : 0 ≡ word l 0 - 4 = omega arith in ap (λ (k : ℕ). take k (drop 4 l)) z
 
-pub front-cut : (l : List ℕ) → length l < recordLength l → recordBody l ≡ drop 4 l
-unfolding recordBody
-front-cut l h = take-all (recordLength l - 4) (drop 4 l) (rw length-drop (omega arith))
+pub front-cut : (l : List ℕ) (n : ℕ) → n ≡ word l 0 → length l < n → drop 4 l ≡ recordBody l
+unfolding recordBody recordLength
+front-cut l n e h = sym (take-all (word l 0 - 4) (drop 4 l) (rw length-drop (omega arith)))
+
+pub front-whole : (l : List ℕ) (n : ℕ) → n ≡ word l 0 → take (n - 4) (drop 4 l) ≡ recordBody l
+unfolding recordBody recordLength
+front-whole l n e = ap (λ (k : ℕ). take (k - 4) (drop 4 l)) e

@@ -4,19 +4,19 @@ use Rattle.answers.proofs.of_input.Tie as tie
 use Rattle.answers.proofs.of_input.Reads as reads
 use Rattle.answers.proofs.of_input.Lts as lts
 
--- src/lib.rt:77:26
+-- src/lib.rt:76:26
 enum-told : tie.Need-enum-told
 enum-told c = search needs
 
--- src/lib.rt:78:25
+-- src/lib.rt:77:25
 enum-known-judged : tie.Need-enum-known-judged
 enum-known-judged c = search needs
 
--- src/lib.rt:73:1
+-- src/lib.rt:72:1
 returns : tie.Need-returns
 returns c = search needs
 
--- src/lib.rt:73:1
+-- src/lib.rt:72:1
 returns-2 : tie.Need-returns-2
 returns-2 c = cc
 
