@@ -4,7 +4,7 @@ use crate::follow::follows;
 use crate::follow::line_key;
 use judged::ACCEPTED;
 use judged::Judged;
-use paths::same;
+use joins::same;
 use places::record_at;
 use records::keys::judge_line;
 use shapes::fields::HEAD_BYTES;

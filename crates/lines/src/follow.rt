@@ -1,6 +1,6 @@
 // Whether one line follows: "Rule 0 cites key number *first premise* of the profile. In the others, premises are earlier line numbers; an
 // unused premise field is 65535."
-use paths::same;
+use joins::same;
 use places::record_at;
 use rule_tests::rules::context_path;
 use rule_tests::rules::context_target;

@@ -23,7 +23,7 @@ use Rattle.theory_lines.specs.SameParts.{sameContext, sameTarget, sameSets, set
 use Rattle.theory_lines.specs.Subnodes.{goesOn, further, onlyPath, lastPath}
 use Rattle.theory_lines.specs.Cuts.{endsPath, beforeEnd, startsAny}
 use Rattle.theory_lines.specs.Interactions.{prefixed, interactionTest}
-use Rattle.paths.specs.Forms.{isBeginning, beginning-rest}
+use Rattle.joins.specs.Forms.{isBeginning, beginning-rest}
 use Rattle.rule_tests.specs.Walks.{beginning-is}
 use Rattle.rule_tests.specs.Compare.{BothNormal, stop, go-on, and-three, test-true}
 use Rattle.rule_tests.specs.Parts.{TwoKeys, LineKey, LineKeys}

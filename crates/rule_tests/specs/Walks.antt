@@ -17,7 +17,7 @@ use Rattle.theory_paths.specs.Bools.{bool-eq}
 use Rattle.theory_lines.specs.SameParts.{sameSets}
 use Rattle.theory_lines.specs.Interactions.{prefixed}
 use Rattle.theory_lines.specs.Beginnings.{begins, begins-split, begins-append}
-use Rattle.paths.specs.Forms.{isBeginning, beginning-rest, beginning-of}
+use Rattle.joins.specs.Forms.{isBeginning, beginning-rest, beginning-of}
 
 path-step : (ps : List (List ℕ)) (i : ℕ) → i < length ps → drop i ps ≡ getD ps i [] ∷ drop (i + 1) ps
 path-step ps i h = rw add-one (drop-cons ps i [] h)

@@ -1,5 +1,5 @@
 // Comparing a path with a join of two, symbol by symbol in place.
-use paths::same;
+use joins::same;
 ghost use mathlib.Core.Path.{_≡_};
 ghost use mathlib.Core.List.{_++_};
 ghost use lib.Dec.{T};

@@ -1,7 +1,7 @@
 // Sets of key paths as they stand in key bodies: "count of key paths; length and symbols of each".
 use crate::compare::is_both;
-use paths::begins;
-use paths::same;
+use joins::begins;
+use joins::same;
 use shapes::bodies::after_path;
 use shapes::bodies::lead_path;
 use shapes::keys::count;

@@ -6,7 +6,7 @@ use Rattle.landings.proofs.lands_in.Tie as tie
 use Rattle.landings.proofs.lands_in.Reads as reads
 use Rattle.landings.proofs.lands_in.Lts as lts
 use Rattle.landings.proofs.marked.Reads as marked-reads
-use Rattle.paths.proofs.same.Reads as same-reads
+use Rattle.joins.proofs.same.Reads as same-reads
 
 -- src/lib.rt:50:8
 sub-if1 : tie.Need-sub-if1

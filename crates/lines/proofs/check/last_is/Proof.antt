@@ -6,7 +6,7 @@ use Rattle.lines.proofs.check.last_is.Tie as tie
 use Rattle.lines.proofs.check.last_is.Reads as reads
 use Rattle.lines.proofs.check.last_is.Lts as lts
 use Rattle.lines.proofs.follow.line_key.Reads as line-key-reads
-use Rattle.paths.proofs.same.Reads as same-reads
+use Rattle.joins.proofs.same.Reads as same-reads
 use Rattle.shapes.proofs.fields.word.Reads as word-reads
 
 -- src/check.rt:31:9

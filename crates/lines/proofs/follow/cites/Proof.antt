@@ -5,7 +5,7 @@ use Rattle.lines.proofs.follow.cites.Statement.{statement}
 use Rattle.lines.proofs.follow.cites.Tie as tie
 use Rattle.lines.proofs.follow.cites.Reads as reads
 use Rattle.lines.proofs.follow.cites.Lts as lts
-use Rattle.paths.proofs.same.Reads as same-reads
+use Rattle.joins.proofs.same.Reads as same-reads
 use Rattle.places.proofs.record_at.Reads as record-at-reads
 use Rattle.shapes.proofs.fields.word.Reads as word-reads
 

@@ -4,8 +4,8 @@ use Rattle.rule_tests.proofs.rules.goes_on.Statement.{statement}
 use Rattle.rule_tests.proofs.rules.goes_on.Tie as tie
 use Rattle.rule_tests.proofs.rules.goes_on.Reads as reads
 use Rattle.rule_tests.proofs.rules.goes_on.Lts as lts
-use Rattle.paths.proofs.begins.Reads as begins-reads
-use Rattle.paths.proofs.simple.Reads as simple-reads
+use Rattle.joins.proofs.begins.Reads as begins-reads
+use Rattle.joins.proofs.simple.Reads as simple-reads
 use Rattle.shapes.proofs.keys.target.Reads as target-reads
 
 -- src/rules.rt:97:9

@@ -5,7 +5,7 @@ use Rattle.rule_tests.proofs.rules.premises_meet.Statement.{statement}
 use Rattle.rule_tests.proofs.rules.premises_meet.Tie as tie
 use Rattle.rule_tests.proofs.rules.premises_meet.Reads as reads
 use Rattle.rule_tests.proofs.rules.premises_meet.Lts as lts
-use Rattle.paths.proofs.simple.Reads as simple-reads
+use Rattle.joins.proofs.simple.Reads as simple-reads
 use Rattle.rule_tests.proofs.compare.is_joined.Reads as is-joined-reads
 use Rattle.rule_tests.proofs.sets.is_prefixed.Reads as is-prefixed-reads
 use Rattle.shapes.proofs.keys.context.Reads as context-reads

@@ -4,7 +4,7 @@ use Rattle.rule_tests.proofs.rules.same_context.Statement.{statement}
 use Rattle.rule_tests.proofs.rules.same_context.Tie as tie
 use Rattle.rule_tests.proofs.rules.same_context.Reads as reads
 use Rattle.rule_tests.proofs.rules.same_context.Lts as lts
-use Rattle.paths.proofs.same.Reads as same-reads
+use Rattle.joins.proofs.same.Reads as same-reads
 use Rattle.shapes.proofs.keys.context.Reads as context-reads
 
 -- src/rules.rt:39:9

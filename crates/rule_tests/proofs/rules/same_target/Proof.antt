@@ -4,7 +4,7 @@ use Rattle.rule_tests.proofs.rules.same_target.Statement.{statement}
 use Rattle.rule_tests.proofs.rules.same_target.Tie as tie
 use Rattle.rule_tests.proofs.rules.same_target.Reads as reads
 use Rattle.rule_tests.proofs.rules.same_target.Lts as lts
-use Rattle.paths.proofs.same.Reads as same-reads
+use Rattle.joins.proofs.same.Reads as same-reads
 use Rattle.shapes.proofs.keys.target.Reads as target-reads
 
 -- src/rules.rt:48:9

@@ -10,7 +10,7 @@ use Rattle.rule_tests.proofs.sets.begins_some.Statement.{statement}
 use Rattle.rule_tests.proofs.sets.begins_some.Tie as tie
 use Rattle.rule_tests.proofs.sets.begins_some.Reads as reads
 use Rattle.rule_tests.proofs.sets.begins_some.Lts as lts
-use Rattle.paths.proofs.begins.Reads as begins-reads
+use Rattle.joins.proofs.begins.Reads as begins-reads
 use Rattle.shapes.proofs.bodies.after_path.Reads as after-path-reads
 use Rattle.shapes.proofs.bodies.lead_path.Reads as lead-path-reads
 use Rattle.shapes.proofs.keys.count.Reads as count-reads

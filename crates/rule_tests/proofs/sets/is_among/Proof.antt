@@ -9,7 +9,7 @@ use Rattle.rule_tests.proofs.sets.is_among.Statement.{statement}
 use Rattle.rule_tests.proofs.sets.is_among.Tie as tie
 use Rattle.rule_tests.proofs.sets.is_among.Reads as reads
 use Rattle.rule_tests.proofs.sets.is_among.Lts as lts
-use Rattle.paths.proofs.same.Reads as same-reads
+use Rattle.joins.proofs.same.Reads as same-reads
 use Rattle.shapes.proofs.bodies.after_path.Reads as after-path-reads
 use Rattle.shapes.proofs.bodies.lead_path.Reads as lead-path-reads
 use Rattle.shapes.proofs.keys.count.Reads as count-reads

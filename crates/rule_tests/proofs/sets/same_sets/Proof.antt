@@ -5,7 +5,7 @@ use Rattle.rule_tests.proofs.sets.same_sets.Statement.{statement}
 use Rattle.rule_tests.proofs.sets.same_sets.Tie as tie
 use Rattle.rule_tests.proofs.sets.same_sets.Reads as reads
 use Rattle.rule_tests.proofs.sets.same_sets.Lts as lts
-use Rattle.paths.proofs.same.Reads as same-reads
+use Rattle.joins.proofs.same.Reads as same-reads
 use Rattle.rule_tests.proofs.sets.set_part.Reads as set-part-reads
 
 -- src/sets.rt:33:9
