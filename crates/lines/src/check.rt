@@ -2,9 +2,9 @@
 // refusal number, then whether it follows (9), before the next is looked at; then 10. The proof's size (7) is the caller's to test.
 use crate::follow::follows;
 use crate::follow::line_key;
+use joins::same;
 use judged::ACCEPTED;
 use judged::Judged;
-use joins::same;
 use places::record_at;
 use records::keys::judge_line;
 use shapes::fields::HEAD_BYTES;
