@@ -34,14 +34,18 @@ fn proof() {
     print_checking(check_proof(&profile[..n], &question[..m], &lines[..k]));
 }
 
+fn usage() {
+    print(b"usage: checker proof PROFILE QUESTION PROOF\n");
+}
+
 fn main() {
     if os::arg_count() != WORDS {
-        print(b"usage: checker proof PROFILE QUESTION PROOF\n");
+        usage();
         return;
     }
     if is_word(1, b"proof") {
         proof();
         return;
     }
-    print(b"usage: checker proof PROFILE QUESTION PROOF\n");
+    usage();
 }
