@@ -1,0 +1,51 @@
+// `checker proof PROFILE QUESTION PROOF`: prints `accepted`, or `refused` with number, input and record. What is decided stands in
+// `proof_checks`; an unreadable file counts as empty.
+use answers::Checking;
+use files::is_word;
+use files::print;
+use files::print_refusal;
+use files::read_argument;
+use proof_checks::check_proof;
+
+// Of a file is read one byte more than its limit, so that it is refused by size; of a question two records of the greatest length and a byte.
+const PROFILE_READ: usize = 16385;
+
+const QUESTION_READ: usize = 131071;
+
+const PROOF_READ: usize = 65537;
+
+// The program's own name, the word and the three files
+const WORDS: usize = 5;
+
+fn print_checking(checking: Checking) {
+    match checking {
+        Checking::Accepted => print(b"accepted\n"),
+        Checking::Refused(refusal) => print_refusal(refusal.number, refusal.input, refusal.place),
+    }
+}
+
+fn proof() {
+    let mut profile = [0u8; PROFILE_READ];
+    let mut question = [0u8; QUESTION_READ];
+    let mut lines = [0u8; PROOF_READ];
+    let n = read_argument(2, &mut profile);
+    let m = read_argument(3, &mut question);
+    let k = read_argument(4, &mut lines);
+    print_checking(check_proof(&profile[..n], &question[..m], &lines[..k]));
+}
+
+fn usage() {
+    print(b"usage: checker proof PROFILE QUESTION PROOF\n");
+}
+
+fn main() {
+    if os::arg_count() != WORDS {
+        usage();
+        return;
+    }
+    if is_word(1, b"proof") {
+        proof();
+        return;
+    }
+    usage();
+}

@@ -1,0 +1,51 @@
+// "check a proof": profile, question and proof as inputs 1, 2 and 3. No `requires`: it takes arbitrary bytes and refuses by the numbered table.
+use answers::Checking;
+use answers::Outcome;
+use answers::PROFILE;
+use answers::QUESTION;
+use answers::Refusal;
+use answers::TREE_OR_PROOF;
+use answers::of_input;
+use judged::TOO_LARGE;
+use lines::check::check_lines;
+use records::profile::read_profile;
+use records::question::read_question;
+ghost use Rattle.meaning.specs.Operations.{ChecksProof};
+ghost use Rattle.answers.specs.Cases.{checkingAnswer};
+
+// "proof 65,536 bytes"
+const PROOF_BYTES: usize = 65536;
+
+// "A proof is accepted if each line follows and the last line's key is the question." The profile's refusal comes first, then the question's,
+// then the proof's size, then its lines from the front.
+pub fn check_proof(profile: &[u8], question: &[u8], proof: &[u8]) -> Checking
+    ensures { λ r. ⌜ ChecksProof (now (profile .entry)) (now (question .entry)) (now (proof .entry)) (checkingAnswer r) ⌝ }
+{
+    let read = read_profile(profile);
+    let judged = read.judged;
+    let first = of_input(judged, PROFILE);
+    if let Outcome::Refused(refusal) = first {
+        return Checking::Refused(refusal);
+    }
+    let classes = read.classes;
+    let asked = read_question(question, &classes);
+    let second = of_input(asked, QUESTION);
+    if let Outcome::Refused(refusal) = second {
+        return Checking::Refused(refusal);
+    }
+    if PROOF_BYTES < proof.len() {
+        return Checking::Refused(Refusal {
+            number: TOO_LARGE,
+            input: TREE_OR_PROOF,
+            place: 0,
+        });
+    }
+    let labels = read.labels;
+    let keys = read.keys;
+    let proved = check_lines(profile, labels, keys, question, proof, &classes);
+    let third = of_input(proved, TREE_OR_PROOF);
+    match third {
+        Outcome::Refused(refusal) => Checking::Refused(refusal),
+        Outcome::Fine => Checking::Accepted,
+    }
+}
