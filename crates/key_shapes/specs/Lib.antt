@@ -2,3 +2,4 @@
 pub mod Symbols
 pub mod Order
 pub mod Validity
+pub mod Refusing

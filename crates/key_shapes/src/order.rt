@@ -5,7 +5,6 @@ use shapes::keys::count;
 use shapes::keys::paths;
 ghost use mathlib.Core.Path.{_≡_};
 ghost use mathlib.Core.Bool.{true};
-ghost use mathlib.Core.List.{List};
 ghost use lib.ListN.{length};
 ghost use Rattle.meaning.specs.Lists.{lower as lowerRun, before as beforePath, ascending};
 ghost use Rattle.meaning.specs.Records.{readKey, keyIn, isSome};

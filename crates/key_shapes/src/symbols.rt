@@ -8,8 +8,6 @@ use shapes::keys::paths;
 use shapes::keys::target;
 ghost use mathlib.Core.Path.{_≡_};
 ghost use mathlib.Core.Bool.{true, _&&_};
-ghost use mathlib.Core.List.{List};
-ghost use Prim.Native.Nat.{ℕ};
 ghost use lib.Dec.{eqb};
 ghost use Rattle.meaning.specs.Lists.{every};
 ghost use Rattle.meaning.specs.Paths.{normal, simple};

@@ -1,7 +1,7 @@
 -- Where bodies end: what the code's tests say, return by return.
 use Prim.Native.Nat.{ℕ, zero, suc, _+_, _-_, _<_, _≤_}
 use mathlib.Core.Path.{_≡_, refl, sym, ap, _∙_}
-use mathlib.Core.Bool.{Bool, true, false, cond, _&&_, not}
+use mathlib.Core.Bool.{Bool, true, false, not}
 use mathlib.Core.List.{List, [], _∷_}
 use native.Mathlib.Numerals.{add-one, sub-one}
 use native.Mathlib.Omega.{arith}
@@ -9,7 +9,7 @@ use lib.Dec.{leb, eqb, eqb·suc-zero}
 use lib.ListN.{length, getD, take, drop}
 use lib.Seq.{take-all}
 use borrow.Rule.Slice.PartAt.{part-to-end}
-use borrow.Author.Tests.{le-leb, lt-leb, eq-eqb, ne-eqb, leb-true, not-true, not-false}
+use borrow.Author.Tests.{le-leb, lt-leb, ne-eqb, leb-true, not-true, not-false}
 use Rattle.meaning.specs.Lists.{isEmpty}
 use Rattle.meaning.specs.Records.{word, recordLength, recordKind, recordBody, readKey, isSome, bodyEnds}
 use Rattle.meaning.specs.Refusals.{whole}

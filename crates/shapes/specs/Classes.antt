@@ -1,6 +1,6 @@
 -- The class table of a profile (0: not declared, 1: element, 2: attribute) and what `meaning` asks of labels, asked of the table.
-use Prim.Native.Nat.{ℕ, zero, suc, _+_, _<_, _≤_}
-use mathlib.Core.Path.{_≡_, refl, sym, ap, ap₂, _∙_}
+use Prim.Native.Nat.{ℕ, _<_}
+use mathlib.Core.Path.{_≡_, refl, sym}
 use mathlib.Core.Bool.{Bool, true, false, cond, _&&_, _||_, not}
 use mathlib.Core.List.{List, [], _∷_}
 use native.Mathlib.Omega.{arith}
@@ -8,9 +8,9 @@ use lib.Dec.{leb, eqb}
 use lib.ListN.{length, getD}
 use Rattle.meaning.specs.Limits.{KeyLimits, textLabel, fillerElement, fillerAttribute, elementClass, attributeClass}
 use Rattle.meaning.specs.Lists.{every, any}
-use Rattle.meaning.specs.Paths.{Label, Class, element, attribute, text, isElement, isAttribute, declared, declaredClass, classOf, isLabel, normal, simple, join, valid}
+use Rattle.meaning.specs.Paths.{Label, Class, element, attribute, text, isAttribute, declared, declaredClass, classOf, isLabel, normal, simple, join, valid}
 use Rattle.meaning.specs.Keys.{Key}
-use Rattle.meaning.specs.Refusals.{isSymbol, goodPath, goodSymbols, goodSet, allValid, keyTests}
+use Rattle.meaning.specs.Refusals.{isSymbol, goodSet}
 
 unfoldable pub declaredBy : List ℕ → ℕ → Bool
 declaredBy classes n = not (eqb (getD classes n 0) 0)

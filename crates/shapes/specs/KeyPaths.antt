@@ -1,15 +1,13 @@
 -- Where the parts of a key stand in its body, and stepping from key path to key path in place.
 use Prim.Native.Nat.{ℕ, zero, suc, _+_, _-_, _<_, _≤_}
-use mathlib.Core.Path.{_≡_, refl, sym, ap, subst, _∙_}
+use mathlib.Core.Path.{_≡_, refl, sym, ap, _∙_}
 use mathlib.Core.Bool.{Bool, true, false, _&&_, not}
 use mathlib.Core.List.{List, [], _∷_}
-use native.Mathlib.Numerals.{add-one, sub-one}
+use native.Mathlib.Numerals.{add-one}
 use native.Mathlib.Omega.{arith}
-use lib.ListN.{length, getD, take, drop}
-use lib.Seq.{drop-cons, take-all}
-use borrow.Rule.Slice.PartAt.{part-to-end}
+use lib.ListN.{length, getD, drop}
+use lib.Seq.{drop-cons}
 use Rattle.meaning.specs.Lists.{every}
-use Rattle.meaning.specs.Keys.{Key}
 use Rattle.meaning.specs.Records.{readKey, keyIn, isSome}
 use Rattle.shapes.specs.Scans.{Scan, scan-start, scan-next, scan-stop, scan-end}
 use Rattle.shapes.specs.Parts.{holdsPath, leadPath, afterPath, pathsEnd, setEnds, pathsOf, setOf, setIn, keyEnds, keyOf, isSome-parts, keyIn-parts}

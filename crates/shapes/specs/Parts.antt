@@ -1,18 +1,15 @@
 -- A key body as its parts in place (document 01, "Records", kind 2): the path at the front, what stands behind it, so many paths to the end.
 -- Each is equal to what `readKey` takes.
-use Prim.Native.Nat.{ℕ, zero, suc, _+_, _-_, _<_, _≤_}
+use Prim.Native.Nat.{ℕ, zero, suc}
 use mathlib.Core.Path.{_≡_, refl, sym, ap, _∙_}
 use mathlib.Core.Bool.{Bool, true, false, cond, _&&_}
 use mathlib.Core.List.{List, [], _∷_}
 use mathlib.Core.Option.{Option, none, some}
-use native.Mathlib.Numerals.{add-one}
-use native.Mathlib.Omega.{arith}
 use lib.Dec.{leb}
-use lib.ListN.{length, getD, take, drop}
-use borrow.Author.Tests.{le-leb, lt-leb, leb-true}
+use lib.ListN.{length, take, drop}
 use Rattle.meaning.specs.Lists.{isEmpty}
 use Rattle.meaning.specs.Keys.{Key}
-use Rattle.meaning.specs.Records.{takePath, takePaths, takeSet, andThen, ifEnded, readKey, keyIn, noKey, isSome}
+use Rattle.meaning.specs.Records.{takePath, takePaths, takeSet, andThen, ifEnded, readKey, keyIn, isSome}
 
 -- a path stands whole at the front
 unfoldable pub holdsPath : List ℕ → Bool

@@ -1,18 +1,18 @@
 -- Under a table that says what the labels say, a key read off bytes passes the tests by the table as it passes those by the labels.
-use Prim.Native.Nat.{ℕ, zero, suc, _+_, _<_, _≤_}
-use mathlib.Core.Path.{_≡_, refl, sym, ap, ap₂, _∙_}
-use mathlib.Core.Bool.{Bool, true, false, _&&_, _||_}
+use Prim.Native.Nat.{ℕ, zero, suc, _+_}
+use mathlib.Core.Path.{_≡_, refl, ap, ap₂}
+use mathlib.Core.Bool.{Bool, true, _&&_, _||_}
 use mathlib.Core.List.{List, [], _∷_, _++_}
 use native.Mathlib.Omega.{arith}
 use lib.Dec.{eqb}
-use lib.ListN.{length, getD, take, drop}
+use lib.ListN.{getD, take, drop}
 use lib.Seq.{getD-drop}
 use Rattle.meaning.specs.Limits.{KeyLimits}
 use Rattle.meaning.specs.Lists.{every}
 use Rattle.meaning.specs.Paths.{Label, Class, isElement, classOf, norm, join, valid, simple}
 use Rattle.meaning.specs.Keys.{Key}
 use Rattle.meaning.specs.Records.{readKey, keyIn, isSome}
-use Rattle.meaning.specs.Refusals.{isSymbol, goodPath, goodSymbols, allValid, keyTests}
+use Rattle.meaning.specs.Refusals.{firstOf, isSymbol, goodPath, goodSymbols, allValid, keyTests}
 use Rattle.shapes.specs.Parts.{leadPath, afterPath, pathsOf, setOf, setIn, keyOf, keyIn-parts}
 use Rattle.shapes.specs.Classes.{Tabled, Bytes, classBy, isSymbolBy, goodPathBy, goodSymbolsBy, allValidBy, keyTestsBy, class-tabled, symbol-tabled}
 
@@ -122,3 +122,8 @@ module _ {labels : List Label} {classes : List ℕ} (tabled : Tabled labels clas
   pub tests-tabled : (limits : KeyLimits) (k : Key) → ByteKey k → keyTestsBy classes limits k ≡ keyTests labels limits k
   unfolding keyTestsBy keyTests
   tests-tabled limits k h = rw (symbols-tabled limits k h, validity-tabled k h)
+
+  -- the number that the tests give, of a key read off bytes
+  pub refusal-tabled : (limits : KeyLimits) (body : List ℕ) → isSome (readKey body) ≡ true → Bytes body
+      → firstOf (keyTestsBy classes limits (keyIn body)) ≡ firstOf (keyTests labels limits (keyIn body))
+  refusal-tabled limits body e h = ap firstOf (tests-tabled limits (keyIn body) (bytes-key body e h))

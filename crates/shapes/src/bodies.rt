@@ -5,7 +5,6 @@ use crate::fields::wide;
 use crate::fields::word;
 ghost use mathlib.Core.Path.{_≡_};
 ghost use mathlib.Core.Bool.{true};
-ghost use lib.ListN.{length};
 ghost use Rattle.meaning.specs.Records.{readKey, isSome, bodyEnds};
 ghost use Rattle.meaning.specs.Refusals.{whole as wholeRecord};
 ghost use Rattle.shapes.specs.Parts.{holdsPath, leadPath, afterPath, pathsEnd};

@@ -1,7 +1,7 @@
 // Names and runs of bytes: document 01, "Records", kind 1, and refusal 3.
 use crate::fields::wide;
 ghost use mathlib.Core.Path.{_≡_};
-ghost use Rattle.meaning.specs.Lists.{same, every};
+ghost use Rattle.meaning.specs.Lists.{same};
 ghost use Rattle.meaning.specs.Refusals.{isLetter, inName, isName};
 
 // "name, the rest, 1 to 32 bytes"

@@ -1,8 +1,11 @@
 -- Tests as facts: `&&`, `||`, `not`, `every`, `any` and `same` taken apart and put together.
-use Prim.Native.Nat.{ℕ, zero, suc}
-use mathlib.Core.Path.{_≡_, refl, sym, ap, ap₂, subst}
+use Prim.Native.Nat.{ℕ, zero, suc, _<_}
+use native.Mathlib.Omega.{arith}
+use mathlib.Core.Option.{some}
+use lib.ListN.{take, getElem?}
+use mathlib.Core.Path.{_≡_, refl, sym, ap₂, subst}
 use mathlib.Core.Logic.{_⊎_, _≢_, inl, inr}
-use mathlib.Core.Bool.{Bool, true, false, cond, _&&_, _||_, not}
+use mathlib.Core.Bool.{Bool, true, false, _&&_, _||_, not}
 use mathlib.Core.List.{List, [], _∷_, _++_, List·Memᴰ, List·Memᴰ·head, List·Memᴰ·tail}
 use lib.Dec.{T, eqb, eqb→eq, eqb-refl}
 use Rattle.meaning.specs.Lists.{Each, every, any, same}
@@ -167,3 +170,15 @@ same-refl (x ∷ xs) = both (eqb x x) (same xs xs) (eqb-refl x) (same-refl xs)
 
 pub eq-same : (xs ys : List ℕ) → xs ≡ ys → T (same xs ys)
 eq-same xs ys e = subst (λ (l : List ℕ). T (same xs l)) e (same-refl xs)
+
+-- What holds of each, or of each of the first m, holds of the one that stands at a number
+pub Each-nth : {A : Type 0} {Q : A → Type 0} {xs : List A} {x : A} (n : ℕ) → Each Q xs → getElem? xs n ≡ some x → Q x
+Each-nth n end e = let z : _≡_ {A = ℕ} 0 1 = cc in absurd (omega arith)
+Each-nth {Q} zero (also q qs) e = subst Q (cc) q
+Each-nth (suc n) (also q qs) e = Each-nth n qs e
+
+pub Each-below : {A : Type 0} {Q : A → Type 0} (xs : List A) {x : A} (n m : ℕ) → n < m → Each Q (take m xs) → getElem? xs n ≡ some x → Q x
+Each-below [] n m h q e = let z : _≡_ {A = ℕ} 0 1 = cc in absurd (omega arith)
+Each-below (y ∷ ys) n zero h q e = absurd (omega arith)
+Each-below {Q} (y ∷ ys) zero (suc m) h (also q qs) e = subst Q (cc) q
+Each-below (y ∷ ys) (suc n) (suc m) h (also q qs) e = Each-below ys n m (omega arith) qs e

@@ -1,21 +1,21 @@
 -- What acceptance by refusals 3 to 6 gives, in usable form: labels between 2 and 200, and keys whose parts are normal, simple, within
 -- their limits and valid together.
-use Prim.Native.Nat.{ℕ, zero, suc, _≤_, _<_}
+use Prim.Native.Nat.{ℕ, suc, _≤_, _<_}
 use native.Mathlib.Omega.{arith}
-use mathlib.Core.Path.{_≡_, refl, sym, ap, ap₂, subst, _∙_}
-use mathlib.Core.Logic.{_⊎_, inl, inr, _≢_}
+use mathlib.Core.Path.{_≡_, refl, sym, ap, subst, _∙_}
+use mathlib.Core.Logic.{_⊎_, inl, inr}
 use mathlib.Core.Bool.{Bool, true, false, cond, _&&_, _||_, not}
 use mathlib.Core.List.{List, [], _∷_, _++_, append-assoc, List·Memᴰ, List·Memᴰ·head, List·Memᴰ·append-cases, List·Memᴰ·eq-of-singleton, List·Memᴰ·not-nil}
-use lib.Dec.{T, eqb, leb, eqb→eq, leb→le, T-not}
+use lib.Dec.{T, eqb, leb, eqb→eq, leb→le}
 use lib.ListN.{length}
 use Rattle.meaning.specs.Limits
 use Rattle.meaning.specs.Limits.{KeyLimits, textLabel, fillerElement, fillerAttribute, rootLabel}
 use Rattle.meaning.specs.Lists.{every, any, ascending}
-use Rattle.meaning.specs.Paths.{Class, Label, element, attribute, text, isElement, declared, declaredClass, classOf, isLabel, normal, simple, join, valid, member, Included}
+use Rattle.meaning.specs.Paths.{Class, Label, element, attribute, isElement, declared, declaredClass, classOf, isLabel, normal, simple, join, valid, member, Included}
 use Rattle.meaning.specs.Keys.{Key}
 use Rattle.meaning.specs.Refusals
 use Rattle.meaning.specs.Refusals.{goodLabel, isSymbol, goodPath, goodSymbols, goodSet, keyTests, firstOf}
-use Rattle.theory_paths.specs.Bools.{and-left, and-right, both, or-cases, or-left, or-right, every-each, every-map, any-some, not-not, false-of, neqb-of, eqb-of, true-of}
+use Rattle.theory_paths.specs.Bools.{and-left, and-right, or-cases, or-left, or-right, every-each, every-map, any-some, false-of, neqb-of}
 use Rattle.theory_paths.specs.Words.{member→word, word→member}
 use Rattle.theory_paths.specs.Simple.{simple-normal}
 use Rattle.theory_paths.specs.Valid.{valid-left, valid-right, valid-norm}

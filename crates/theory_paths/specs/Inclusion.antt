@@ -1,15 +1,13 @@
 -- ARGUMENT §1, "Inclusion is membership": for a valid path P, P is included in Q exactly when P, read as a run, is a word of Q.
 use Prim.Native.Nat.{ℕ, zero, suc}
-use native.Mathlib.Nat.{suc-inj}
-use mathlib.Core.Path.{_≡_, refl, sym, ap, ap₂, subst, _∙_}
-use mathlib.Core.Logic.{_⊎_, inl, inr}
-use mathlib.Core.Bool.{Bool, true, false, _&&_, _||_, not}
+use mathlib.Core.Path.{_≡_, refl, sym, ap, ap₂, subst}
+use mathlib.Core.Bool.{Bool, true, false, _||_, not}
 use mathlib.Core.List.{List, [], _∷_, _++_, nil≢cons, cons≢nil, head-eq-of-cons-eq, tail-eq-of-cons-eq}
 use lib.Dec.{T, eqb, eqb·suc-zero}
 use Rattle.meaning.specs.Limits.{fillerElement}
 use Rattle.meaning.specs.Lists.{every, isEmpty}
 use Rattle.meaning.specs.Paths.{Class, Label, declared, isElement, isLabel, classOf, member, valid, Included}
-use Rattle.theory_paths.specs.Bools.{and-left, and-right, both, or-cases, or-left, or-right, every-cons, every-head, every-tail, ne-of-neqb}
+use Rattle.theory_paths.specs.Bools.{and-left, and-right, both, or-left, or-right, every-head, every-tail, ne-of-neqb}
 use Rattle.theory_paths.specs.Words.{Word, member→word, word→member, word-trans}
 use Rattle.theory_paths.specs.Valid.{mayStep, valid-put, valid-first, valid-tail}
 

@@ -1,7 +1,7 @@
 -- ARGUMENT §1, "Normal form": norm removes each 0 that follows a 0, and neither the words of a path nor the paths of which it is a
 -- word change; the join is norm of the append.
 use Prim.Native.Nat.{ℕ, zero, suc}
-use mathlib.Core.Path.{_≡_, refl, sym, ap, ap₂, subst, _∙_}
+use mathlib.Core.Path.{_≡_, refl, sym, ap, _∙_}
 use mathlib.Core.List.{List, [], _∷_, _++_, append-assoc, append-nil}
 use lib.Dec.{T}
 use Rattle.meaning.specs.Paths.{normal, norm, join}

@@ -1,11 +1,10 @@
 -- ARGUMENT §1, "Simple paths are rigid": a path with no 0 has itself as its only word.
 use Prim.Native.Nat.{ℕ, zero, suc}
-use mathlib.Core.Path.{_≡_, refl, sym, ap, ap₂, subst, _∙_}
+use mathlib.Core.Path.{_≡_, ap, _∙_}
 use mathlib.Core.Bool.{not}
 use mathlib.Core.List.{List, [], _∷_, _++_}
 use lib.Dec.{T, eqb}
-use Rattle.meaning.specs.Lists.{every}
-use Rattle.meaning.specs.Paths.{normal, norm, join, simple}
+use Rattle.meaning.specs.Paths.{normal, join, simple}
 use Rattle.theory_paths.specs.Bools.{every-append, every-left, every-right, every-head, every-tail}
 use Rattle.theory_paths.specs.Words.{Word, word-refl}
 use Rattle.theory_paths.specs.Normal.{norm-of-normal}

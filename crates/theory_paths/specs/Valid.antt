@@ -1,12 +1,12 @@
 -- "A path is valid if an attribute or text label stands only last": of parts, of an append, of the normal form.
 use Prim.Native.Nat.{ℕ, zero, suc}
-use mathlib.Core.Path.{_≡_, refl, sym, ap, ap₂, subst, _∙_}
-use mathlib.Core.Bool.{Bool, true, false, _&&_, _||_}
+use mathlib.Core.Path.{_≡_, refl, sym, ap₂, subst, _∙_}
+use mathlib.Core.Bool.{Bool, true, _&&_, _||_}
 use mathlib.Core.List.{List, [], _∷_, _++_}
 use lib.Dec.{T, eqb}
 use Rattle.meaning.specs.Lists.{isEmpty, every}
 use Rattle.meaning.specs.Paths.{Class, isElement, norm, join, valid}
-use Rattle.theory_paths.specs.Bools.{and-left, and-right, both, or-right, every-left}
+use Rattle.theory_paths.specs.Bools.{bool-eq, and-left, and-right, both, or-right}
 
 -- a symbol that may stand before another
 unfoldable pub mayStep : (ℕ → Class) → ℕ → Bool
@@ -66,6 +66,13 @@ module _ (κ : ℕ → Class) where
   valid-of-steps (r ∷ P) s =
       valid-put r P (or-right (isEmpty P) (mayStep κ r) (and-left (mayStep κ r) (every (mayStep κ) P) s))
       (valid-of-steps P (and-right (mayStep κ r) (every (mayStep κ) P) s))
+
+  -- before something, every symbol has to step on
+  pub valid-split : (P : List ℕ) (s : ℕ) (Q : List ℕ) → valid κ (P ++ s ∷ Q) ≡ (every (mayStep κ) P && valid κ (s ∷ Q))
+  valid-split P s Q =
+      bool-eq (valid κ (P ++ s ∷ Q)) (every (mayStep κ) P && valid κ (s ∷ Q))
+      (λ t. both (every (mayStep κ) P) (valid κ (s ∷ Q)) (valid-before P s Q t) (valid-right P (s ∷ Q) t))
+      (λ t. valid-append P (s ∷ Q) (and-left (every (mayStep κ) P) (valid κ (s ∷ Q)) t) (and-right (every (mayStep κ) P) (valid κ (s ∷ Q)) t))
 
   -- the normal form is as valid as the path
   isEmpty-norm : (P : List ℕ) → isEmpty (norm P) ≡ isEmpty P

@@ -1,14 +1,14 @@
 -- ARGUMENT §1: words by recursion on the path. A path may itself be read as a run, its own 0 being one more label that only an
 -- any-path can take.
 use Prim.Native.Nat.{ℕ, zero, suc}
-use mathlib.Core.Path.{_≡_, refl, sym, ap, ap₂, subst, _∙_}
+use mathlib.Core.Path.{_≡_, refl, sym, ap, subst, _∙_}
 use mathlib.Core.Logic.{_⊎_, inl, inr}
-use mathlib.Core.Bool.{Bool, true, false, _&&_, _||_}
-use mathlib.Core.List.{List, [], _∷_, _++_, append-assoc, head-eq-of-cons-eq, tail-eq-of-cons-eq}
+use mathlib.Core.Bool.{Bool}
+use mathlib.Core.List.{List, [], _∷_, _++_, append-assoc}
 use lib.Dec.{T, eqb, eqb→eq, eqb-refl}
 use Rattle.meaning.specs.Lists.{isEmpty}
 use Rattle.meaning.specs.Paths.{member, front, anyEnd}
-use Rattle.theory_paths.specs.Bools.{and-left, and-right, both, or-cases, or-left, or-right, bool-eq, of-true, true-of}
+use Rattle.theory_paths.specs.Bools.{and-left, and-right, both, or-cases, or-left, or-right, bool-eq}
 
 -- The run w is a word of the path
 unfoldable pub Word : List ℕ → List ℕ → Type 0

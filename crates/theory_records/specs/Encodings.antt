@@ -6,7 +6,7 @@ use mathlib.Core.List.{List, [], _∷_, _++_, map, flatten}
 use native.Mathlib.Omega.{arith}
 use borrow.Author.Tests.{leb-true, le-leb, eqb-true, eq-eqb}
 use lib.Dec.{leb, eqb}
-use lib.ListN.{length, getD, take, drop, length-append}
+use lib.ListN.{length, getD, take, drop, length-append, drop-of-length-le}
 use Rattle.meaning.specs.Lists.{Each, end, also}
 use Rattle.meaning.specs.Paths.{Label}
 use Rattle.meaning.specs.Trees.{Node}
@@ -64,20 +64,21 @@ pub key-record-written : (l : List ℕ) → Bytes l → Whole l → recordKind l
 unfolding keyBytes
 key-record-written l bs w k = record-is l bs w 2 k _ (key-in-written (recordBody l) (ends-key l w k))
 
+-- five bytes and the rest
+front-five : (l : List ℕ) → 5 ≤ length l → getD l 0 0 ∷ getD l 1 0 ∷ getD l 2 0 ∷ getD l 3 0 ∷ getD l 4 0 ∷ drop 5 l ≡ l
+front-five [] h = absurd (omega arith)
+front-five (a ∷ []) h = absurd (omega arith)
+front-five (a ∷ b ∷ []) h = absurd (omega arith)
+front-five (a ∷ b ∷ c ∷ []) h = absurd (omega arith)
+front-five (a ∷ b ∷ c ∷ d ∷ []) h = absurd (omega arith)
+front-five (a ∷ b ∷ c ∷ d ∷ e ∷ l) h = refl
+
 -- Kind 3
 node-body : (body : List ℕ) → Bytes body → length body ≡ 5
     → wordBytes (word body 0) ++ (getD body 2 0 ∷ wordBytes (word body 3)) ≡ body
-node-body body bs h = rw (wordBytes-word body 0 bs, wordBytes-word body 3 bs) (five body h)
-  where
-    five : (l : List ℕ) → length l ≡ 5
-        → getD l 0 0 ∷ getD l 1 0 ∷ getD l 2 0 ∷ getD l 3 0 ∷ getD l 4 0 ∷ [] ≡ l
-    five [] h = absurd (omega arith)
-    five (a ∷ []) h = absurd (omega arith)
-    five (a ∷ b ∷ []) h = absurd (omega arith)
-    five (a ∷ b ∷ c ∷ []) h = absurd (omega arith)
-    five (a ∷ b ∷ c ∷ d ∷ []) h = absurd (omega arith)
-    five (a ∷ b ∷ c ∷ d ∷ e ∷ []) h = refl
-    five (a ∷ b ∷ c ∷ d ∷ e ∷ f ∷ l) h = absurd (omega arith)
+node-body body bs h =
+    let none : drop 5 body ≡ [] = drop-of-length-le body {i = 5} (omega arith) in
+    rw (wordBytes-word body 0 bs, wordBytes-word body 3 bs) (rw none at (front-five body (omega arith)))
 
 pub node-written : (l : List ℕ) → Bytes l → Whole l → recordKind l ≡ 3
     → nodeBytes (readNode (recordBody l)) ++ drop (recordLength l) l ≡ l
@@ -87,16 +88,7 @@ node-written l bs w k = record-is l bs w 3 k _ (node-body (recordBody l) (bytes-
 -- Kind 4
 line-body : (body : List ℕ) → Bytes body → 5 ≤ length body
     → getD body 0 0 ∷ (wordBytes (word body 1) ++ (wordBytes (word body 3) ++ drop 5 body)) ≡ body
-line-body body bs h = rw (wordBytes-word body 1 bs, wordBytes-word body 3 bs) (five body h)
-  where
-    five : (l : List ℕ) → 5 ≤ length l
-        → getD l 0 0 ∷ getD l 1 0 ∷ getD l 2 0 ∷ getD l 3 0 ∷ getD l 4 0 ∷ drop 5 l ≡ l
-    five [] h = absurd (omega arith)
-    five (a ∷ []) h = absurd (omega arith)
-    five (a ∷ b ∷ []) h = absurd (omega arith)
-    five (a ∷ b ∷ c ∷ []) h = absurd (omega arith)
-    five (a ∷ b ∷ c ∷ d ∷ []) h = absurd (omega arith)
-    five (a ∷ b ∷ c ∷ d ∷ e ∷ l) h = refl
+line-body body bs h = rw (wordBytes-word body 1 bs, wordBytes-word body 3 bs) (front-five body h)
 
 pub line-written : (l : List ℕ) → Bytes l → Whole l → recordKind l ≡ 4
     → lineBytes (readLine (recordBody l)) ++ drop (recordLength l) l ≡ l

@@ -1,10 +1,11 @@
 -- The head of a record: document 01, "length of the whole record (two bytes, little-endian), kind (two bytes), body".
 use Prim.Native.Nat.{ℕ, zero, suc, _+_, _*_, _-_, _≤_, _<_}
 use mathlib.Core.Path.{_≡_, refl, sym, subst, ap, _∙_}
-use mathlib.Core.Bool.{Bool, true, false, _&&_}
+use mathlib.Core.Bool.{Bool, true, false, _&&_, not}
 use mathlib.Core.List.{List, [], _∷_, _++_}
 use native.Mathlib.Omega.{arith}
-use borrow.Author.Tests.{leb-true}
+use borrow.Author.Tests.{leb-true, not-false}
+use borrow.Rule.Slice.PartAt.{part-to-end}
 use lib.ListN.{length, getD, take, drop, take-append-drop, length-take, length-drop}
 use lib.Seq.{length-take-le, take-append-seam, drop-append-seam}
 use Rattle.meaning.specs.Lists.{Each, end, also}
@@ -81,3 +82,17 @@ module _ (kind : ℕ) (body rest : List ℕ) where
 pub bytes-length : (kind : ℕ) (body : List ℕ) → length (recordBytes kind body) ≡ 4 + length body
 unfolding recordBytes wordBytes
 bytes-length kind body = omega arith
+
+-- what the code knows of a record that it found whole: its head can be read, and its length is a place in the rest
+pub record Passed (l : List ℕ) : Type 0 where
+  pub head : 4 ≤ length l
+  pub long : 4 ≤ word l 0
+  pub within : word l 0 ≤ length l
+
+pub passed : (l : List ℕ) {b : Bool} → b ≡ whole l → not b ≡ false → Passed l
+unfolding recordLength
+passed l e t = let w = whole-says l (sym e ∙ not-false _ t) in record { head = w .head; long = w .long; within = w .within }
+
+-- the rest after a record, as the code has it, is shorter
+pub shorter : (l : List ℕ) (k : ℕ) → 1 ≤ k → k ≤ length l → length (take (length l - k) (drop k l)) < length l
+shorter l k h w = rw (part-to-end l k) (omega (arith, length-drop k l))

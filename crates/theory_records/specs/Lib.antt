@@ -5,11 +5,13 @@ pub mod Bytes
 pub mod Heads
 pub mod KeyBodies
 pub mod Encodings
+pub mod HeadTests
 pub mod Judged
 pub mod Profiles
 pub mod TreeFiles
 pub mod Questions
 pub mod Bodies
+pub mod Places
 pub mod Written
 pub mod WrittenInputs
 pub mod WrittenProfiles

@@ -54,7 +54,7 @@ question-kept labels bytes n read l g h e =
     (λ (r : Read labels bytes read l). absurd (cons≢nil (sym (r .one) ∙ a .alone)))
     (g .either)
 
-question-long : (labels : List Label) (read : List Key) (l : List ℕ) → 0 < length l → firstOf (questionTests labels read l) ≡ 0 → 1 ≤ recordLength l
+pub question-long : (labels : List Label) (read : List Key) (l : List ℕ) → 0 < length l → firstOf (questionTests labels read l) ≡ 0 → 1 ≤ recordLength l
 question-long labels read l h e = omega (arith, question-accepted labels read l e .isWhole .long)
 
 -- What acceptance of a question says: it is one key record, to the end

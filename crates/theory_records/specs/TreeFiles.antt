@@ -123,7 +123,7 @@ nine-more k m e = omega arith
 at-most : (i m k : ℕ) → m ≡ suc k → i < m → i ≤ k
 at-most i m k e h = omega arith
 
-tree-kept : (labels : List Label) (bytes : List ℕ) (n : ℕ) (nodes : List Node) (l : List ℕ) → TreeAt labels bytes n nodes l → 0 < length l
+pub tree-kept : (labels : List Label) (bytes : List ℕ) (n : ℕ) (nodes : List Node) (l : List ℕ) → TreeAt labels bytes n nodes l → 0 < length l
     → firstOf (treeTests labels nodes l) ≡ 0
     → TreeAt labels bytes (suc n) (nodes ++ (readNode (recordBody l) ∷ [])) (drop (recordLength l) l)
 tree-kept labels bytes n nodes l g h e =
@@ -155,18 +155,21 @@ pub tree-long : (labels : List Label) (nodes : List Node) (l : List ℕ) → 0 <
     → 1 ≤ recordLength l
 tree-long labels nodes l h e = omega (arith, node-accepted labels nodes l e .isWhole .long)
 
-pub tree-stop : (labels : List Label) (bytes : List ℕ) → Stopped (treeTests labels) (TreeAt labels bytes) (treeWalked labels bytes)
-unfolding treeWalked
-tree-stop labels bytes =
-    walk-keeps (treeTests labels) _ (TreeAt labels bytes) (tree-long labels) (tree-kept labels bytes) 0 [] bytes
-    (record {
+pub tree-none : (labels : List Label) (bytes : List ℕ) → TreeAt labels bytes 0 [] bytes
+tree-none labels bytes =
+    record {
       counted = refl;
       left = refl;
       within = omega arith;
       few = omega arith;
       are = λ i h. absurd (omega arith);
       good = record { root = λ h. absurd (omega arith); below = λ i h k. absurd (omega arith) };
-    })
+    }
+
+pub tree-stop : (labels : List Label) (bytes : List ℕ) → Stopped (treeTests labels) (TreeAt labels bytes) (treeWalked labels bytes)
+unfolding treeWalked
+tree-stop labels bytes =
+    walk-keeps (treeTests labels) _ (TreeAt labels bytes) (tree-long labels) (tree-kept labels bytes) 0 [] bytes (tree-none labels bytes)
 
 -- What acceptance of a tree says
 pub record TreeAccepted (labels : List Label) (bytes : List ℕ) : Type 0 where

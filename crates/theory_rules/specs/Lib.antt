@@ -1,7 +1,4 @@
--- ARGUMENT 3: the rules are sound, tree by tree.
+-- ARGUMENT 3: each rule of inference is sound, tree by tree, and what an accepted proof shows is true of every tree.
 pub mod Rules
 pub mod Accepted
-pub mod Cuts
-pub mod Decided
-pub mod Lines
-pub mod Judged
+pub mod Refuted

@@ -1,11 +1,8 @@
+-- `paths::included` meets its contract. The invariant: row `left` of the square is there. Assumes nothing.
 use native.Mathlib.Omega.{arith}
-use borrow.Author.Needs.{needs}
 use Rattle.paths.specs.Square.{Marked, marked-start, marked-above, marked-more, marked-end}
 use Rattle.paths.proofs.included.Statement.{statement}
 use Rattle.paths.proofs.included.Tie as tie
-use Rattle.paths.proofs.included.Reads as reads
-use Rattle.paths.proofs.included.Lts as lts
-use Rattle.paths.proofs.mark_row.Reads as mark-row-reads
 
 abbrev Inv-loop : tie.InvT-loop
 Inv-loop p q marks₀ left₀ marks left = Marked marks p q left

@@ -1,9 +1,8 @@
+-- `paths::mark` meets its contract: the laws of specs/Square, one for each return. Assumes nothing.
 use borrow.Author.Needs.{needs}
 use Rattle.paths.specs.Square.{mark-end, ends-here, ends-nowhere, takes, no-symbol, other-symbol, same-symbol}
 use Rattle.paths.proofs.mark.Statement.{statement}
 use Rattle.paths.proofs.mark.Tie as tie
-use Rattle.paths.proofs.mark.Reads as reads
-use Rattle.paths.proofs.mark.Lts as lts
 
 -- src/lib.rt:76:9
 returns : tie.Need-returns

@@ -1,11 +1,8 @@
+-- `paths::mark_row` meets its contract. The invariant: the marks of row i from `left` on are there, and the row below. Assumes nothing.
 use native.Mathlib.Omega.{arith}
-use borrow.Author.Needs.{needs}
 use Rattle.paths.specs.Square.{Filling, filling-start, filling-beside, filling-more, filling-end}
 use Rattle.paths.proofs.mark_row.Statement.{statement}
 use Rattle.paths.proofs.mark_row.Tie as tie
-use Rattle.paths.proofs.mark_row.Reads as reads
-use Rattle.paths.proofs.mark_row.Lts as lts
-use Rattle.paths.proofs.mark.Reads as mark-reads
 
 abbrev Inv-loop : tie.InvT-loop
 Inv-loop marks₀ p q i left₀ marks left = Filling marks p q i left

@@ -1,3 +1,4 @@
+-- `key_shapes::symbols::all_symbols` meets its contract. A scan from the front (`Scan`).
 use borrow.Author.Needs.{needs}
 use native.Mathlib.Omega.{arith}
 use Prim.Native.Nat.{_-_}
@@ -7,9 +8,6 @@ use Rattle.shapes.specs.Classes.{isSymbolBy}
 use Rattle.shapes.specs.Scans.{Scan, scan-start, scan-next, scan-stop, scan-end}
 use Rattle.key_shapes.proofs.symbols.all_symbols.Statement.{statement}
 use Rattle.key_shapes.proofs.symbols.all_symbols.Tie as tie
-use Rattle.key_shapes.proofs.symbols.all_symbols.Reads as reads
-use Rattle.key_shapes.proofs.symbols.all_symbols.Lts as lts
-use Rattle.key_shapes.proofs.symbols.is_symbol.Reads as is-symbol-reads
 
 abbrev Inv-loop : tie.InvT-loop
 Inv-loop p classes i₀ i = Scan 0 (isSymbolBy classes) p i (every (isSymbolBy classes) p)

@@ -1,10 +1,7 @@
-use borrow.Author.Needs.{needs}
-use native.Mathlib.Omega.{arith}
+-- `key_shapes::symbols::doubled` meets its contract. One law of specs/ for each return.
 use Rattle.key_shapes.specs.Symbols.{doubled-first, doubled-not}
 use Rattle.key_shapes.proofs.symbols.doubled.Statement.{statement}
 use Rattle.key_shapes.proofs.symbols.doubled.Tie as tie
-use Rattle.key_shapes.proofs.symbols.doubled.Reads as reads
-use Rattle.key_shapes.proofs.symbols.doubled.Lts as lts
 
 -- src/symbols.rt:55:9
 returns : tie.Need-returns

@@ -1,12 +1,8 @@
-use native.Mathlib.Omega.{arith}
+-- `key_shapes::symbols::good_key_path` meets its contract. One law of specs/ for each return.
 use Rattle.key_shapes.specs.Symbols.{key-path-symbols, key-path-simple}
 use borrow.Author.Needs.{needs}
 use Rattle.key_shapes.proofs.symbols.good_key_path.Statement.{statement}
 use Rattle.key_shapes.proofs.symbols.good_key_path.Tie as tie
-use Rattle.key_shapes.proofs.symbols.good_key_path.Reads as reads
-use Rattle.key_shapes.proofs.symbols.good_key_path.Lts as lts
-use Rattle.key_shapes.proofs.symbols.good_path.Reads as good-path-reads
-use Rattle.key_shapes.proofs.symbols.is_simple.Reads as is-simple-reads
 
 -- src/symbols.rt:104:9
 good-path-requires : tie.Need-good-path-requires

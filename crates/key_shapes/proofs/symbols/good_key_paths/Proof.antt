@@ -1,20 +1,13 @@
+-- `key_shapes::symbols::good_key_paths` meets its contract. A scan of the key paths in place (`PathScan`).
 use borrow.Author.Needs.{needs}
 use native.Mathlib.Omega.{arith}
 use Prim.Native.Nat.{_-_}
-use lib.ListN.{length}
 use Rattle.meaning.specs.Lists.{every}
 use Rattle.meaning.specs.Records.{keyIn}
 use Rattle.shapes.specs.KeyPaths.{PathScan, at-holds, path-scan-start, path-scan-next, path-scan-stop, path-scan-end}
 use Rattle.key_shapes.specs.Symbols.{goodKeyPath}
 use Rattle.key_shapes.proofs.symbols.good_key_paths.Statement.{statement}
 use Rattle.key_shapes.proofs.symbols.good_key_paths.Tie as tie
-use Rattle.key_shapes.proofs.symbols.good_key_paths.Reads as reads
-use Rattle.key_shapes.proofs.symbols.good_key_paths.Lts as lts
-use Rattle.key_shapes.proofs.symbols.good_key_path.Reads as good-key-path-reads
-use Rattle.shapes.proofs.bodies.after_path.Reads as after-path-reads
-use Rattle.shapes.proofs.bodies.lead_path.Reads as lead-path-reads
-use Rattle.shapes.proofs.keys.count.Reads as count-reads
-use Rattle.shapes.proofs.keys.paths.Reads as paths-reads
 
 abbrev Inv-loop : tie.InvT-loop
 Inv-loop body classes limit n rest₀ i₀ rest i = PathScan (goodKeyPath classes limit) (keyIn body .paths) i rest (every (goodKeyPath classes limit) (keyIn body .paths))

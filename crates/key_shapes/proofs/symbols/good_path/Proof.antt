@@ -1,12 +1,8 @@
-use native.Mathlib.Omega.{arith}
+-- `key_shapes::symbols::good_path` meets its contract. One law of specs/ for each return.
 use Rattle.key_shapes.specs.Symbols.{path-long, path-symbol, path-normal}
 use borrow.Author.Needs.{needs}
 use Rattle.key_shapes.proofs.symbols.good_path.Statement.{statement}
 use Rattle.key_shapes.proofs.symbols.good_path.Tie as tie
-use Rattle.key_shapes.proofs.symbols.good_path.Reads as reads
-use Rattle.key_shapes.proofs.symbols.good_path.Lts as lts
-use Rattle.key_shapes.proofs.symbols.all_symbols.Reads as all-symbols-reads
-use Rattle.key_shapes.proofs.symbols.is_normal.Reads as is-normal-reads
 
 -- src/symbols.rt:92:9
 returns : tie.Need-returns

@@ -1,14 +1,8 @@
-use native.Mathlib.Omega.{arith}
+-- `key_shapes::symbols::good_symbols` meets its contract. One law of specs/ for each return.
 use Rattle.key_shapes.specs.Symbols.{symbols-context, symbols-target, symbols-paths}
 use borrow.Author.Needs.{needs}
 use Rattle.key_shapes.proofs.symbols.good_symbols.Statement.{statement}
 use Rattle.key_shapes.proofs.symbols.good_symbols.Tie as tie
-use Rattle.key_shapes.proofs.symbols.good_symbols.Reads as reads
-use Rattle.key_shapes.proofs.symbols.good_symbols.Lts as lts
-use Rattle.key_shapes.proofs.symbols.good_key_paths.Reads as good-key-paths-reads
-use Rattle.key_shapes.proofs.symbols.good_path.Reads as good-path-reads
-use Rattle.shapes.proofs.keys.context.Reads as context-reads
-use Rattle.shapes.proofs.keys.target.Reads as target-reads
 
 -- src/symbols.rt:134:9
 context-requires : tie.Need-context-requires

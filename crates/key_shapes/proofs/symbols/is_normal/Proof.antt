@@ -1,3 +1,4 @@
+-- `key_shapes::symbols::is_normal` meets its contract. The loop looks at two neighbours at a time (`NormalAt`).
 use borrow.Author.Needs.{needs}
 use native.Mathlib.Omega.{arith}
 use Prim.Native.Nat.{_-_}
@@ -6,9 +7,6 @@ use Rattle.meaning.specs.Paths.{normal}
 use Rattle.key_shapes.specs.Symbols.{NormalAt, normal-start, normal-next, normal-stop, normal-end}
 use Rattle.key_shapes.proofs.symbols.is_normal.Statement.{statement}
 use Rattle.key_shapes.proofs.symbols.is_normal.Tie as tie
-use Rattle.key_shapes.proofs.symbols.is_normal.Reads as reads
-use Rattle.key_shapes.proofs.symbols.is_normal.Lts as lts
-use Rattle.key_shapes.proofs.symbols.doubled.Reads as doubled-reads
 
 abbrev Inv-loop : tie.InvT-loop
 Inv-loop p i₀ i = NormalAt p i (normal p)

@@ -1,3 +1,4 @@
+-- `key_shapes::symbols::is_simple` meets its contract. A scan from the front (`Scan`).
 use borrow.Author.Needs.{needs}
 use native.Mathlib.Omega.{arith}
 use Prim.Native.Nat.{_-_}
@@ -7,8 +8,6 @@ use Rattle.shapes.specs.Scans.{Scan, scan-end}
 use Rattle.key_shapes.specs.Symbols.{notAny, simple-start, simple-next, simple-stop}
 use Rattle.key_shapes.proofs.symbols.is_simple.Statement.{statement}
 use Rattle.key_shapes.proofs.symbols.is_simple.Tie as tie
-use Rattle.key_shapes.proofs.symbols.is_simple.Reads as reads
-use Rattle.key_shapes.proofs.symbols.is_simple.Lts as lts
 
 abbrev Inv-loop : tie.InvT-loop
 Inv-loop p i₀ i = Scan 0 notAny p i (simple p)

@@ -1,11 +1,8 @@
-use native.Mathlib.Omega.{arith}
+-- `key_shapes::symbols::is_symbol` meets its contract. One law of specs/ for each return.
 use Rattle.key_shapes.specs.Symbols.{symbol-any, symbol-text, symbol-declared}
 use borrow.Author.Needs.{needs}
 use Rattle.key_shapes.proofs.symbols.is_symbol.Statement.{statement}
 use Rattle.key_shapes.proofs.symbols.is_symbol.Tie as tie
-use Rattle.key_shapes.proofs.symbols.is_symbol.Reads as reads
-use Rattle.key_shapes.proofs.symbols.is_symbol.Lts as lts
-use Rattle.shapes.proofs.fields.wide.Reads as wide-reads
 
 -- src/symbols.rt:28:9
 returns : tie.Need-returns

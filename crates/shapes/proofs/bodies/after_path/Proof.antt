@@ -1,11 +1,9 @@
+-- `shapes::bodies::after_path` meets its contract. One law of specs/ for each return.
 use Rattle.shapes.specs.Bodies.{path-fits, after-part}
 use native.Mathlib.Omega.{arith}
 use borrow.Author.Needs.{needs}
 use Rattle.shapes.proofs.bodies.after_path.Statement.{statement}
 use Rattle.shapes.proofs.bodies.after_path.Tie as tie
-use Rattle.shapes.proofs.bodies.after_path.Reads as reads
-use Rattle.shapes.proofs.bodies.after_path.Lts as lts
-use Rattle.shapes.proofs.fields.wide.Reads as wide-reads
 
 -- src/bodies.rt:45:20
 shared-slice-read-wide : tie.Need-shared-slice-read-wide

@@ -1,10 +1,8 @@
+-- `shapes::bodies::body_ends` meets its contract. One law of specs/ for each return.
 use Rattle.shapes.specs.Bodies.{ends-label, ends-key, ends-node, ends-line-short, ends-line, ends-unknown}
 use borrow.Author.Needs.{needs}
 use Rattle.shapes.proofs.bodies.body_ends.Statement.{statement}
 use Rattle.shapes.proofs.bodies.body_ends.Tie as tie
-use Rattle.shapes.proofs.bodies.body_ends.Reads as reads
-use Rattle.shapes.proofs.bodies.body_ends.Lts as lts
-use Rattle.shapes.proofs.bodies.key_shape.Reads as key-shape-reads
 
 -- src/bodies.rt:89:9
 returns : tie.Need-returns

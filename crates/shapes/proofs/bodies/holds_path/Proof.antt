@@ -1,11 +1,8 @@
+-- `shapes::bodies::holds_path` meets its contract. One law of specs/ for each return.
 use Rattle.shapes.specs.Bodies.{holds-empty, holds-length}
-use native.Mathlib.Omega.{arith}
 use borrow.Author.Needs.{needs}
 use Rattle.shapes.proofs.bodies.holds_path.Statement.{statement}
 use Rattle.shapes.proofs.bodies.holds_path.Tie as tie
-use Rattle.shapes.proofs.bodies.holds_path.Reads as reads
-use Rattle.shapes.proofs.bodies.holds_path.Lts as lts
-use Rattle.shapes.proofs.fields.wide.Reads as wide-reads
 
 -- src/bodies.rt:26:9
 returns : tie.Need-returns

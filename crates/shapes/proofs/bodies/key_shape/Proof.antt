@@ -1,17 +1,10 @@
-use mathlib.Core.Path.{refl, sym, _∙_, ap}
-use borrow.Author.Tests.{not-false, not-true}
-use Rattle.shapes.specs.Parts.{holdsPath, afterPath, setEnds, setIn}
+-- `shapes::bodies::key_shape` meets its contract. One law of specs/ for each return.
+use mathlib.Core.Path.{sym, _∙_}
+use borrow.Author.Tests.{not-false}
 use Rattle.shapes.specs.Bodies.{key-context, key-target, key-set, set-empty, set-counted}
-use native.Mathlib.Omega.{arith}
 use borrow.Author.Needs.{needs}
 use Rattle.shapes.proofs.bodies.key_shape.Statement.{statement}
 use Rattle.shapes.proofs.bodies.key_shape.Tie as tie
-use Rattle.shapes.proofs.bodies.key_shape.Reads as reads
-use Rattle.shapes.proofs.bodies.key_shape.Lts as lts
-use Rattle.shapes.proofs.bodies.after_path.Reads as after-path-reads
-use Rattle.shapes.proofs.bodies.holds_path.Reads as holds-path-reads
-use Rattle.shapes.proofs.bodies.paths_end.Reads as paths-end-reads
-use Rattle.shapes.proofs.fields.wide.Reads as wide-reads
 
 -- src/bodies.rt:70:9
 holds-path-requires : tie.Need-holds-path-requires

@@ -1,11 +1,9 @@
+-- `shapes::bodies::lead_path` meets its contract. One law of specs/ for each return.
 use Rattle.shapes.specs.Bodies.{path-fits, lead-part}
 use native.Mathlib.Omega.{arith}
 use borrow.Author.Needs.{needs}
 use Rattle.shapes.proofs.bodies.lead_path.Statement.{statement}
 use Rattle.shapes.proofs.bodies.lead_path.Tie as tie
-use Rattle.shapes.proofs.bodies.lead_path.Reads as reads
-use Rattle.shapes.proofs.bodies.lead_path.Lts as lts
-use Rattle.shapes.proofs.fields.wide.Reads as wide-reads
 
 -- src/bodies.rt:36:20
 shared-slice-read-wide : tie.Need-shared-slice-read-wide

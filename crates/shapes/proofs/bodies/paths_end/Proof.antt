@@ -1,4 +1,4 @@
-use native.Mathlib.Omega.{arith}
+-- `shapes::bodies::paths_end` meets its contract. Each turn passes one path, and what is asked of the whole is asked of the rest (`Ends`).
 use borrow.Author.Needs.{needs}
 use mathlib.Core.Path.{refl, sym, _∙_}
 use borrow.Author.Tests.{not-false}
@@ -6,10 +6,6 @@ use Rattle.shapes.specs.Parts.{pathsEnd}
 use Rattle.shapes.specs.Bodies.{Ends, ends-next, ends-stop, ends-done}
 use Rattle.shapes.proofs.bodies.paths_end.Statement.{statement}
 use Rattle.shapes.proofs.bodies.paths_end.Tie as tie
-use Rattle.shapes.proofs.bodies.paths_end.Reads as reads
-use Rattle.shapes.proofs.bodies.paths_end.Lts as lts
-use Rattle.shapes.proofs.bodies.after_path.Reads as after-path-reads
-use Rattle.shapes.proofs.bodies.holds_path.Reads as holds-path-reads
 
 abbrev Inv-loop : tie.InvT-loop
 Inv-loop l count rest₀ left₀ rest left = Ends left rest (pathsEnd count l)

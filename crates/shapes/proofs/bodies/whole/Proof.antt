@@ -1,11 +1,8 @@
+-- `shapes::bodies::whole` meets its contract. One law of specs/ for each return.
 use Rattle.shapes.specs.Bodies.{whole-head, whole-under, whole-past, whole-body}
 use borrow.Author.Needs.{needs}
 use Rattle.shapes.proofs.bodies.whole.Statement.{statement}
 use Rattle.shapes.proofs.bodies.whole.Tie as tie
-use Rattle.shapes.proofs.bodies.whole.Reads as reads
-use Rattle.shapes.proofs.bodies.whole.Lts as lts
-use Rattle.shapes.proofs.bodies.body_ends.Reads as body-ends-reads
-use Rattle.shapes.proofs.fields.word.Reads as word-reads
 
 -- src/bodies.rt:111:9
 returns : tie.Need-returns

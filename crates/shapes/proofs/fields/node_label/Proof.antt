@@ -1,11 +1,8 @@
+-- `shapes::fields::node_label` meets its contract. One law of specs/ for each return.
 use Rattle.meaning.specs.Records.{readNode}
-use native.Mathlib.Omega.{arith}
 use borrow.Author.Needs.{needs}
 use Rattle.shapes.proofs.fields.node_label.Statement.{statement}
 use Rattle.shapes.proofs.fields.node_label.Tie as tie
-use Rattle.shapes.proofs.fields.node_label.Reads as reads
-use Rattle.shapes.proofs.fields.node_label.Lts as lts
-use Rattle.shapes.proofs.fields.wide.Reads as wide-reads
 
 -- src/fields.rt:58:10
 shared-slice-read-wide : tie.Need-shared-slice-read-wide

@@ -1,11 +1,8 @@
+-- `shapes::fields::node_parent` meets its contract. One law of specs/ for each return.
 use Rattle.meaning.specs.Records.{readNode}
-use native.Mathlib.Omega.{arith}
 use borrow.Author.Needs.{needs}
 use Rattle.shapes.proofs.fields.node_parent.Statement.{statement}
 use Rattle.shapes.proofs.fields.node_parent.Tie as tie
-use Rattle.shapes.proofs.fields.node_parent.Reads as reads
-use Rattle.shapes.proofs.fields.node_parent.Lts as lts
-use Rattle.shapes.proofs.fields.word.Reads as word-reads
 
 -- src/fields.rt:51:5
 word-requires : tie.Need-word-requires

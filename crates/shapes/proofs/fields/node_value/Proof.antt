@@ -1,11 +1,8 @@
+-- `shapes::fields::node_value` meets its contract. One law of specs/ for each return.
 use Rattle.meaning.specs.Records.{readNode}
-use native.Mathlib.Omega.{arith}
 use borrow.Author.Needs.{needs}
 use Rattle.shapes.proofs.fields.node_value.Statement.{statement}
 use Rattle.shapes.proofs.fields.node_value.Tie as tie
-use Rattle.shapes.proofs.fields.node_value.Reads as reads
-use Rattle.shapes.proofs.fields.node_value.Lts as lts
-use Rattle.shapes.proofs.fields.word.Reads as word-reads
 
 -- src/fields.rt:65:5
 word-requires : tie.Need-word-requires

@@ -1,11 +1,8 @@
+-- `shapes::fields::too_many` meets its contract. One law of specs/ for each return.
 use Rattle.shapes.specs.Fields.{many-short, many-other, many-counted}
-use native.Mathlib.Omega.{arith}
 use borrow.Author.Needs.{needs}
 use Rattle.shapes.proofs.fields.too_many.Statement.{statement}
 use Rattle.shapes.proofs.fields.too_many.Tie as tie
-use Rattle.shapes.proofs.fields.too_many.Reads as reads
-use Rattle.shapes.proofs.fields.too_many.Lts as lts
-use Rattle.shapes.proofs.fields.word.Reads as word-reads
 
 -- src/fields.rt:39:9
 returns : tie.Need-returns

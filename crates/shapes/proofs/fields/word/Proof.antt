@@ -1,11 +1,9 @@
+-- `shapes::fields::word` meets its contract. One law of specs/ for each return.
 use Rattle.meaning.specs.Records.{word}
 use native.Mathlib.Omega.{arith}
 use borrow.Author.Needs.{needs}
 use Rattle.shapes.proofs.fields.word.Statement.{statement}
 use Rattle.shapes.proofs.fields.word.Tie as tie
-use Rattle.shapes.proofs.fields.word.Reads as reads
-use Rattle.shapes.proofs.fields.word.Lts as lts
-use Rattle.shapes.proofs.fields.wide.Reads as wide-reads
 
 -- src/fields.rt:29:20
 shared-slice-read-wide : tie.Need-shared-slice-read-wide

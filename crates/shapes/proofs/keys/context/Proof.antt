@@ -1,10 +1,8 @@
+-- `shapes::keys::context` meets its contract. One law of specs/ for each return.
 use mathlib.Core.Path.{_∙_}
 use Rattle.shapes.specs.KeyPaths.{context-holds, context-is}
 use Rattle.shapes.proofs.keys.context.Statement.{statement}
 use Rattle.shapes.proofs.keys.context.Tie as tie
-use Rattle.shapes.proofs.keys.context.Reads as reads
-use Rattle.shapes.proofs.keys.context.Lts as lts
-use Rattle.shapes.proofs.bodies.lead_path.Reads as lead-path-reads
 
 -- src/keys.rt:19:5
 lead-path-requires : tie.Need-lead-path-requires

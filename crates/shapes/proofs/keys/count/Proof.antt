@@ -1,3 +1,4 @@
+-- `shapes::keys::count` meets its contract. One law of specs/ for each return.
 use mathlib.Core.Path.{_∙_, ap}
 use Prim.Native.Nat.{ℕ}
 use mathlib.Core.List.{List}
@@ -7,10 +8,6 @@ use Rattle.shapes.specs.KeyPaths.{set-nonempty, count-is}
 use borrow.Author.Needs.{needs}
 use Rattle.shapes.proofs.keys.count.Statement.{statement}
 use Rattle.shapes.proofs.keys.count.Tie as tie
-use Rattle.shapes.proofs.keys.count.Reads as reads
-use Rattle.shapes.proofs.keys.count.Lts as lts
-use Rattle.shapes.proofs.fields.wide.Reads as wide-reads
-use Rattle.shapes.proofs.keys.counted_set.Reads as counted-set-reads
 
 -- src/keys.rt:45:9
 counted-set-requires : tie.Need-counted-set-requires

@@ -1,11 +1,9 @@
+-- `shapes::keys::counted_set` meets its contract. One law of specs/ for each return.
 use mathlib.Core.Path.{_∙_, ap}
 use Rattle.shapes.specs.Parts.{holdsPath, afterPath, setIn}
 use Rattle.shapes.specs.KeyPaths.{context-holds, target-holds}
 use Rattle.shapes.proofs.keys.counted_set.Statement.{statement}
 use Rattle.shapes.proofs.keys.counted_set.Tie as tie
-use Rattle.shapes.proofs.keys.counted_set.Reads as reads
-use Rattle.shapes.proofs.keys.counted_set.Lts as lts
-use Rattle.shapes.proofs.bodies.after_path.Reads as after-path-reads
 
 -- src/keys.rt:36:9
 after-path-requires : tie.Need-after-path-requires

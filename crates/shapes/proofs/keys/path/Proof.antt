@@ -1,18 +1,13 @@
+-- `shapes::keys::path` meets its contract. After i turns the rest stands at key path i (`AtPath`).
 use Prim.Native.Nat.{ℕ, _≤_, _-_}
 use mathlib.Core.Path.{_≡_, _∙_, ap}
-use mathlib.Core.List.{List, []}
+use mathlib.Core.List.{[]}
 use native.Mathlib.Omega.{arith}
-use borrow.Author.Needs.{needs}
 use lib.ListN.{getD}
 use Rattle.meaning.specs.Records.{keyIn}
 use Rattle.shapes.specs.KeyPaths.{AtPath, at-holds, at-next, at-lead}
 use Rattle.shapes.proofs.keys.path.Statement.{statement}
 use Rattle.shapes.proofs.keys.path.Tie as tie
-use Rattle.shapes.proofs.keys.path.Reads as reads
-use Rattle.shapes.proofs.keys.path.Lts as lts
-use Rattle.shapes.proofs.bodies.after_path.Reads as after-path-reads
-use Rattle.shapes.proofs.bodies.lead_path.Reads as lead-path-reads
-use Rattle.shapes.proofs.keys.paths.Reads as paths-reads
 
 abbrev Inv-loop : tie.InvT-loop
 Inv-loop body n rest₀ i₀ rest i = (i ≤ n) × AtPath (keyIn body .paths) i rest

@@ -1,3 +1,4 @@
+-- `shapes::keys::paths` meets its contract. One law of specs/ for each return.
 use mathlib.Core.Path.{_∙_, ap}
 use native.Mathlib.Omega.{arith}
 use lib.ListN.{length, drop}
@@ -6,9 +7,6 @@ use Rattle.shapes.specs.KeyPaths.{set-nonempty, at-start-in, pathsIn}
 use borrow.Author.Needs.{needs}
 use Rattle.shapes.proofs.keys.paths.Statement.{statement}
 use Rattle.shapes.proofs.keys.paths.Tie as tie
-use Rattle.shapes.proofs.keys.paths.Reads as reads
-use Rattle.shapes.proofs.keys.paths.Lts as lts
-use Rattle.shapes.proofs.keys.counted_set.Reads as counted-set-reads
 
 -- src/keys.rt:54:9
 counted-set-requires : tie.Need-counted-set-requires

@@ -1,11 +1,8 @@
+-- `shapes::names::in_name` meets its contract. One law of specs/ for each return.
 use Rattle.shapes.specs.Names.{in-letter, in-dash, in-line, in-low, in-last}
-use native.Mathlib.Omega.{arith}
 use borrow.Author.Needs.{needs}
 use Rattle.shapes.proofs.names.in_name.Statement.{statement}
 use Rattle.shapes.proofs.names.in_name.Tie as tie
-use Rattle.shapes.proofs.names.in_name.Reads as reads
-use Rattle.shapes.proofs.names.in_name.Lts as lts
-use Rattle.shapes.proofs.names.is_letter.Reads as is-letter-reads
 
 -- src/names.rt:30:8
 is-letter-requires : tie.Need-is-letter-requires

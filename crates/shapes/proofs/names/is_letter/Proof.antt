@@ -1,10 +1,8 @@
+-- `shapes::names::is_letter` meets its contract. One law of specs/ for each return.
 use Rattle.shapes.specs.Names.{letter-low, letter-upper, letter-between, letter-last}
-use native.Mathlib.Omega.{arith}
 use borrow.Author.Needs.{needs}
 use Rattle.shapes.proofs.names.is_letter.Statement.{statement}
 use Rattle.shapes.proofs.names.is_letter.Tie as tie
-use Rattle.shapes.proofs.names.is_letter.Reads as reads
-use Rattle.shapes.proofs.names.is_letter.Lts as lts
 
 -- src/names.rt:15:9
 returns : tie.Need-returns

@@ -1,19 +1,15 @@
+-- `shapes::names::is_name` meets its contract. The loop scans the bytes behind the first: what is asked of the name is asked of the bytes that are left (`Scan`).
 use Rattle.shapes.specs.Scans.{Scan, scan-next, scan-stop, scan-end}
 use borrow.Author.Tests.{not-true, not-false}
-use mathlib.Core.Path.{_≡_, sym, _∙_}
-use Prim.Native.Nat.{_≤_, _<_, _-_}
-use lib.ListN.{length, drop}
-use Rattle.meaning.specs.Lists.{every}
+use mathlib.Core.Path.{sym, _∙_}
+use Prim.Native.Nat.{_≤_, _-_}
+use lib.ListN.{length}
 use Rattle.meaning.specs.Refusals.{inName, isName}
 use Rattle.shapes.specs.Names.{name-empty, name-long, name-first, name-rest}
 use native.Mathlib.Omega.{arith}
 use borrow.Author.Needs.{needs}
 use Rattle.shapes.proofs.names.is_name.Statement.{statement}
 use Rattle.shapes.proofs.names.is_name.Tie as tie
-use Rattle.shapes.proofs.names.is_name.Reads as reads
-use Rattle.shapes.proofs.names.is_name.Lts as lts
-use Rattle.shapes.proofs.names.in_name.Reads as in-name-reads
-use Rattle.shapes.proofs.names.is_letter.Reads as is-letter-reads
 
 abbrev Inv-loop : tie.InvT-loop
 Inv-loop name i₀ i = (1 ≤ i) × Scan 0 inName name i (isName name)

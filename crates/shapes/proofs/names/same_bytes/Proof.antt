@@ -1,14 +1,12 @@
+-- `shapes::names::same_bytes` meets its contract. The loop compares the two runs from the front, which have one length (`Pair`).
 use Rattle.shapes.specs.Scans.{Pair, pair-start, pair-next, pair-stop, pair-end, same-lengths}
-use Prim.Native.Nat.{_≤_, _<_, _-_}
-use mathlib.Core.Path.{_≡_, refl, _∙_, sym}
-use lib.ListN.{length, drop}
+use Prim.Native.Nat.{_-_}
+use lib.ListN.{length}
 use Rattle.meaning.specs.Lists.{same}
 use native.Mathlib.Omega.{arith}
 use borrow.Author.Needs.{needs}
 use Rattle.shapes.proofs.names.same_bytes.Statement.{statement}
 use Rattle.shapes.proofs.names.same_bytes.Tie as tie
-use Rattle.shapes.proofs.names.same_bytes.Reads as reads
-use Rattle.shapes.proofs.names.same_bytes.Lts as lts
 
 abbrev Inv-loop : tie.InvT-loop
 Inv-loop a b i₀ i = Pair a b i (same a b)

@@ -1,0 +1,62 @@
+-- "Where an answer is an enum, a definition gives this paper's number and values for each case of the enum. The promises use that definition."
+use Prim.Native.Nat.{ℕ}
+use mathlib.Core.List.{List, []}
+use Rattle.meaning.specs.Refusals as Table
+use Rattle.meaning.specs.Operations.{Answer, Verdict, refusedBy, plain, rewritten, included, notIncluded, kept, broken, accepted, listed, implied, notImplied}
+use Rattle.judged.specs.declared.Judged.{Judged}
+use Rattle.judged.specs.declared.Judged.the-variants as J
+use Rattle.answers.specs.declared.Refusal.{Refusal}
+use Rattle.answers.specs.declared.Outcome.{Outcome}
+use Rattle.answers.specs.declared.Outcome.the-variants as O
+use Rattle.answers.specs.declared.Rewriting.{Rewriting}
+use Rattle.answers.specs.declared.Rewriting.the-variants as R
+use Rattle.answers.specs.declared.Inclusion.{Inclusion}
+use Rattle.answers.specs.declared.Inclusion.the-variants as I
+use Rattle.answers.specs.declared.Keeping.{Keeping}
+use Rattle.answers.specs.declared.Keeping.the-variants as K
+use Rattle.answers.specs.declared.Checking.{Checking}
+use Rattle.answers.specs.declared.Checking.the-variants as C
+use Rattle.answers.specs.declared.Listing.{Listing}
+use Rattle.answers.specs.declared.Listing.the-variants as L
+use Rattle.answers.specs.declared.Deciding.{Deciding}
+use Rattle.answers.specs.declared.Deciding.the-variants as D
+
+-- the code's refusal is the table's
+abbrev pub meant : Refusal → Table.Refusal
+meant r = record { number = r .number; input = r .input; place = r .place }
+
+-- what reading one input comes to, with the input's number
+abbrev pub outcomeOf : ℕ → Judged → Outcome
+outcomeOf input J.Sound = O.Fine
+outcomeOf input (J.Refused number place) = O.Refused (record { number = number; input = input; place = place })
+
+-- so many bytes used, and the buffer as it is at the end
+abbrev pub usedOf : Verdict → ℕ → List ℕ → Answer
+usedOf v used buffer = record { verdict = v; number = 0; input = 0; place = 0; used = used; buffer = buffer }
+
+abbrev pub rewritingAnswer : Rewriting → List ℕ → Answer
+rewritingAnswer (R.Rewritten used) buffer = usedOf rewritten used buffer
+rewritingAnswer (R.Refused r) buffer = refusedBy (meant r) buffer
+
+abbrev pub inclusionAnswer : Inclusion → Answer
+inclusionAnswer I.Included = plain included
+inclusionAnswer I.NotIncluded = plain notIncluded
+inclusionAnswer (I.Refused r) = refusedBy (meant r) []
+
+abbrev pub keepingAnswer : Keeping → Answer
+keepingAnswer K.Kept = plain kept
+keepingAnswer K.Broken = plain broken
+keepingAnswer (K.Refused r) = refusedBy (meant r) []
+
+abbrev pub checkingAnswer : Checking → Answer
+checkingAnswer C.Accepted = plain accepted
+checkingAnswer (C.Refused r) = refusedBy (meant r) []
+
+abbrev pub listingAnswer : Listing → List ℕ → Answer
+listingAnswer (L.Listed used) buffer = usedOf listed used buffer
+listingAnswer (L.Refused r) buffer = refusedBy (meant r) buffer
+
+abbrev pub decidingAnswer : Deciding → List ℕ → Answer
+decidingAnswer (D.Implied used) buffer = usedOf implied used buffer
+decidingAnswer (D.NotImplied used) buffer = usedOf notImplied used buffer
+decidingAnswer (D.Refused r) buffer = refusedBy (meant r) buffer

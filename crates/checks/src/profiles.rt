@@ -1,0 +1,79 @@
+// "read and rewrite a profile"; "give the body of record n of a checked profile".
+use answers::ANSWER_BYTES;
+use answers::Outcome;
+use answers::PROFILE;
+use answers::Rewriting;
+use answers::of_input;
+use answers::small_answer;
+use judged::Judged;
+use places::record_at;
+use records::profile::read_profile;
+use shapes::fields::HEAD_BYTES;
+use shapes::fields::word;
+ghost use Prim.Native.Nat.{_≤_};
+ghost use mathlib.Core.Path.{_≡_};
+ghost use mathlib.Core.List.{_++_};
+ghost use lib.ListN.{length, drop};
+ghost use Rattle.meaning.specs.Records.{recordBody};
+ghost use Rattle.meaning.specs.Operations.{Rewrites, bodyAt};
+ghost use Rattle.answers.specs.Cases.{rewritingAnswer};
+
+// Puts the bytes at the front of out.
+fn copy_front(bytes: &[u8], out: &mut [u8])
+    requires { ⌜ length (now bytes) ≤ length (now out) ⌝ }
+    ensures { λ _. ⌜ now (out .exit) ≡ now (bytes .entry) ++ drop (length (now (bytes .entry))) (now (out .entry)) ⌝ }
+{
+    let mut i = 0;
+    while i < bytes.len() {
+        out[i] = bytes[i];
+        i += 1;
+    }
+}
+
+// On acceptance the profile's own bytes stand at the front of the answer buffer and every byte behind them stays; a refusal changes no byte.
+pub fn rewrite(profile: &[u8], answer: &mut [u8]) -> Rewriting
+    ensures { λ r. ⌜ Rewrites (now (profile .entry)) (now (answer .entry)) (rewritingAnswer r (now (answer .exit))) ⌝ }
+{
+    if answer.len() < ANSWER_BYTES {
+        return Rewriting::Refused(small_answer());
+    }
+    let read = read_profile(profile);
+    let judged = read.judged;
+    let outcome = of_input(judged, PROFILE);
+    match outcome {
+        Outcome::Refused(refusal) => Rewriting::Refused(refusal),
+        Outcome::Fine => {
+            copy_front(profile, answer);
+            Rewriting::Rewritten(profile.len())
+        }
+    }
+}
+
+// The body of the record at the front of what is left of a checked profile; nothing where nothing is left.
+fn body_at_front(rest: &[u8]) -> &[u8]
+    ensures { λ r. ⌜ now r ≡ recordBody (now (rest .entry)) ⌝ }
+{
+    if rest.len() < HEAD_BYTES {
+        return &rest[..0];
+    }
+    let end = word(rest, 0);
+    if end < HEAD_BYTES {
+        return &rest[..0];
+    }
+    if rest.len() < end {
+        return &rest[HEAD_BYTES..];
+    }
+    &rest[HEAD_BYTES..end]
+}
+
+// A part of the caller's profile, neither copied nor an offset; the empty part where the profile is refused or has no record n.
+pub fn body(profile: &[u8], n: usize) -> &[u8]
+    ensures { λ r. ⌜ now r ≡ bodyAt (now (profile .entry)) n ⌝ }
+{
+    let read = read_profile(profile);
+    let judged = read.judged;
+    match judged {
+        Judged::Refused(_, _) => &profile[..0],
+        Judged::Sound => body_at_front(record_at(profile, n)),
+    }
+}

@@ -1,0 +1,58 @@
+-- `joins::append_is` meets its contract. Assumes nothing.
+use native.Mathlib.Omega.{arith}
+use Rattle.joins.specs.Joins.{append-short, append-other, append-rest}
+use lib.ListN.{length-take}
+use borrow.Author.Tests.{not-true, not-false}
+use borrow.Author.Needs.{needs}
+use Rattle.joins.proofs.append_is.Statement.{statement}
+use Rattle.joins.proofs.append_is.Tie as tie
+
+-- src/lib.rt:263:9
+returns : tie.Need-returns
+returns c = search append-short
+
+-- src/lib.rt:265:17
+slice-aggregate-same : tie.Need-slice-aggregate-same
+slice-aggregate-same c = simp length-take (omega arith)
+
+-- src/lib.rt:265:9
+same-requires : tie.Need-same-requires
+same-requires c κs = search needs
+
+-- src/lib.rt:266:9
+returns-2 : tie.Need-returns-2
+returns-2 c = search (append-other, not-true)
+
+-- src/lib.rt:268:13
+sub-same : tie.Need-sub-same
+sub-same c = search needs
+
+-- src/lib.rt:268:13
+part-same-start : tie.Need-part-same-start
+part-same-start c = search needs
+
+-- src/lib.rt:268:13
+part-same-end : tie.Need-part-same-end
+part-same-end c = search needs
+
+-- src/lib.rt:268:5
+same-requires-2 : tie.Need-same-requires-2
+same-requires-2 c κs = search needs
+
+-- src/lib.rt:258:1
+returns-3 : tie.Need-returns-3
+returns-3 c = search (append-rest, not-false)
+
+pub append-is-spec : {M : Type 1} → statement M
+append-is-spec =
+    tie.close
+    (tie.spec
+    returns
+    slice-aggregate-same
+    same-requires
+    returns-2
+    sub-same
+    part-same-start
+    part-same-end
+    same-requires-2
+    returns-3)

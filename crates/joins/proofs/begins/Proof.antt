@@ -1,0 +1,26 @@
+-- `joins::begins` meets its contract. Assumes nothing.
+use native.Mathlib.Omega.{arith}
+use Rattle.joins.specs.Forms.{too-long, begun}
+use lib.ListN.{length-take}
+use borrow.Author.Needs.{needs}
+use Rattle.joins.proofs.begins.Statement.{statement}
+use Rattle.joins.proofs.begins.Tie as tie
+
+-- src/lib.rt:149:9
+returns : tie.Need-returns
+returns c = search too-long
+
+-- src/lib.rt:151:13
+slice-aggregate-same : tie.Need-slice-aggregate-same
+slice-aggregate-same c = simp length-take (omega arith)
+
+-- src/lib.rt:151:5
+same-requires : tie.Need-same-requires
+same-requires c κs = search needs
+
+-- src/lib.rt:144:1
+returns-2 : tie.Need-returns-2
+returns-2 c = search begun
+
+pub begins-spec : {M : Type 1} → statement M
+begins-spec = tie.close (tie.spec returns slice-aggregate-same same-requires returns-2)

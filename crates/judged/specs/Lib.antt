@@ -1,0 +1,2 @@
+-- The refusal that each case of `Judged` stands for.
+pub mod Answers

@@ -1,0 +1,20 @@
+// What reading one input comes to: document 01, "A refusal returns number, input .. and record number".
+
+// `Refused` holds the number and the record's; the input is the reader's to say (specs/Answers: `refusalOf`).
+pub enum Judged {
+    Sound,
+    Refused(usize, usize),
+}
+
+// The refusal numbers of document 01; 0 where no test gives one
+pub const ACCEPTED: usize = 0;
+
+pub const NOT_WHOLE: usize = 1;
+
+pub const NOT_ALLOWED: usize = 2;
+
+pub const BAD_LABEL: usize = 3;
+
+pub const TOO_LARGE: usize = 7;
+
+pub const BAD_NODE: usize = 8;

@@ -1,0 +1,60 @@
+-- `landings::lands_in` meets its contract: the laws of specs/Landing. Assumes nothing.
+use Rattle.landings.specs.Landing.{lands-short, lands-other, lands-mark}
+use borrow.Author.Needs.{needs}
+use Rattle.landings.proofs.lands_in.Statement.{statement}
+use Rattle.landings.proofs.lands_in.Tie as tie
+
+-- src/lib.rt:50:8
+sub-if1 : tie.Need-sub-if1
+sub-if1 c = search needs
+
+-- src/lib.rt:51:9
+returns : tie.Need-returns
+returns c = search lands-short
+
+-- src/lib.rt:53:15
+add-end : tie.Need-add-end
+add-end c = search needs
+
+-- src/lib.rt:54:14
+sub-same : tie.Need-sub-same
+sub-same c = search needs
+
+-- src/lib.rt:54:14
+part-same-start : tie.Need-part-same-start
+part-same-start c = search needs
+
+-- src/lib.rt:54:14
+part-same-end : tie.Need-part-same-end
+part-same-end c = search needs
+
+-- src/lib.rt:54:9
+same-requires : tie.Need-same-requires
+same-requires c κs = search needs
+
+-- src/lib.rt:55:9
+returns-2 : tie.Need-returns-2
+returns-2 c = search lands-other
+
+-- src/lib.rt:57:5
+marked-requires : tie.Need-marked-requires
+marked-requires c κs = search needs
+
+-- src/lib.rt:46:1
+returns-3 : tie.Need-returns-3
+returns-3 c = search lands-mark
+
+pub lands-in-spec : {M : Type 1} → statement M
+lands-in-spec =
+    tie.close
+    (tie.spec
+    sub-if1
+    returns
+    add-end
+    sub-same
+    part-same-start
+    part-same-end
+    same-requires
+    returns-2
+    marked-requires
+    returns-3)

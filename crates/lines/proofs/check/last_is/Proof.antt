@@ -1,0 +1,65 @@
+use Rattle.lines.specs.Premises.{earlier-last}
+use Rattle.lines.specs.Checking.{last-empty, last-same, last-other, question-start, question-end}
+use borrow.Author.Needs.{needs}
+use Rattle.lines.proofs.check.last_is.Statement.{statement}
+use Rattle.lines.proofs.check.last_is.Tie as tie
+use Rattle.lines.proofs.check.last_is.Reads as reads
+use Rattle.lines.proofs.check.last_is.Lts as lts
+use Rattle.lines.proofs.follow.line_key.Reads as line-key-reads
+use Rattle.joins.proofs.same.Reads as same-reads
+use Rattle.shapes.proofs.fields.word.Reads as word-reads
+
+-- src/check.rt:31:9
+returns : tie.Need-returns
+returns c = search (last-empty)
+
+-- src/check.rt:33:16
+sub-last : tie.Need-sub-last
+sub-last c = search needs
+
+-- src/check.rt:34:9
+line-key-requires : tie.Need-line-key-requires
+line-key-requires c κs = search (earlier-last)
+
+-- src/check.rt:35:9
+word-requires : tie.Need-word-requires
+word-requires c κs = search needs
+
+-- src/check.rt:36:18
+sub-same : tie.Need-sub-same
+sub-same c = search (question-start)
+
+-- src/check.rt:36:18
+part-same-start : tie.Need-part-same-start
+part-same-start c = search (question-start)
+
+-- src/check.rt:36:18
+part-same-end : tie.Need-part-same-end
+part-same-end c = search (question-end)
+
+-- src/check.rt:36:8
+same-requires : tie.Need-same-requires
+same-requires c κs = search needs
+
+-- src/check.rt:37:9
+returns-2 : tie.Need-returns-2
+returns-2 c = search (last-same)
+
+-- src/check.rt:26:1
+returns-3 : tie.Need-returns-3
+returns-3 c = search (last-other)
+
+pub last-is-spec : {M : Type 1} → statement M
+last-is-spec =
+    tie.close
+    (tie.spec
+    returns
+    sub-last
+    line-key-requires
+    word-requires
+    sub-same
+    part-same-start
+    part-same-end
+    same-requires
+    returns-2
+    returns-3)

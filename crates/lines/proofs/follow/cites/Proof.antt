@@ -1,0 +1,54 @@
+use Rattle.lines.specs.Premises.{cites-none, cites-some, cite-head, cite-start, cite-end}
+use borrow.Author.Needs.{needs}
+use Rattle.lines.proofs.follow.cites.Statement.{statement}
+use Rattle.lines.proofs.follow.cites.Tie as tie
+use Rattle.lines.proofs.follow.cites.Reads as reads
+use Rattle.lines.proofs.follow.cites.Lts as lts
+use Rattle.joins.proofs.same.Reads as same-reads
+use Rattle.places.proofs.record_at.Reads as record-at-reads
+use Rattle.shapes.proofs.fields.word.Reads as word-reads
+
+-- src/follow.rt:65:9
+returns : tie.Need-returns
+returns c = search (cites-none)
+
+-- src/follow.rt:67:9
+record-at-requires : tie.Need-record-at-requires
+record-at-requires c κs = search needs
+
+-- src/follow.rt:68:9
+word-requires : tie.Need-word-requires
+word-requires c κs = search (cite-head)
+
+-- src/follow.rt:69:10
+sub-same : tie.Need-sub-same
+sub-same c = search (cite-start)
+
+-- src/follow.rt:69:10
+part-same-start : tie.Need-part-same-start
+part-same-start c = search (cite-start)
+
+-- src/follow.rt:69:10
+part-same-end : tie.Need-part-same-end
+part-same-end c = search (cite-end)
+
+-- src/follow.rt:69:5
+same-requires : tie.Need-same-requires
+same-requires c κs = search needs
+
+-- src/follow.rt:60:1
+returns-2 : tie.Need-returns-2
+returns-2 c = search (cites-some)
+
+pub cites-spec : {M : Type 1} → statement M
+cites-spec =
+    tie.close
+    (tie.spec
+    returns
+    record-at-requires
+    word-requires
+    sub-same
+    part-same-start
+    part-same-end
+    same-requires
+    returns-2)

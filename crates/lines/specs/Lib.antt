@@ -1,0 +1,5 @@
+pub mod Premises
+pub mod ProfileKeys
+pub mod ProofLines
+pub mod Following
+pub mod Checking

@@ -1,0 +1,70 @@
+// "A proof is accepted if each line follows and the last line's key is the question." Lines are judged from the front: each one's own
+// refusal number, then whether it follows (9), before the next is looked at; then 10. The proof's size (7) is the caller's to test.
+use crate::follow::follows;
+use crate::follow::line_key;
+use joins::same;
+use judged::ACCEPTED;
+use judged::Judged;
+use places::record_at;
+use records::keys::judge_line;
+use shapes::fields::HEAD_BYTES;
+use shapes::fields::word;
+ghost use Prim.Native.Nat.{_-_};
+ghost use lib.ListN.{getElem?};
+ghost use Rattle.meaning.specs.Rules.{lineKeys};
+ghost use Rattle.meaning.specs.Refusals.{questionIn, proofWalked};
+ghost use Rattle.meaning.specs.Operations.{ProofJudged, labelsIn, keysIn};
+ghost use Rattle.lines.specs.Premises.{linesFrom, Earlier};
+ghost use Rattle.lines.specs.Checking.{Given, IsQuestion, LastTold, checkedAnswer};
+
+// 9: "a proof line does not follow"; 10: "proof empty (record 0), or its last key is not the question (that line)"
+const UNFOLLOWED: usize = 9;
+
+const OTHER_END: usize = 10;
+
+// "the last line's key is the question"
+fn last_is(proof: &[u8], lines: usize, question: &[u8]) -> Judged
+    requires { ⌜ Earlier lines (now proof) × IsQuestion (now question) ⌝ }
+    ensures { λ r. ⌜ LastTold (getElem? (lineKeys (linesFrom lines (now (proof .entry)))) (lines - 1)) (questionIn (now (question .entry))) (lines - 1) r ⌝ }
+{
+    if lines == 0 {
+        return Judged::Refused(OTHER_END, 0);
+    }
+    let last = lines - 1;
+    let key = line_key(proof, last);
+    let end = word(question, 0);
+    if same(key, &question[HEAD_BYTES..end]) {
+        return Judged::Sound;
+    }
+    Judged::Refused(OTHER_END, last)
+}
+
+// A whole proof, under an accepted profile with so many labels and keys and an accepted question.
+pub fn check_lines(
+    profile: &[u8],
+    labels: usize,
+    keys: usize,
+    question: &[u8],
+    proof: &[u8],
+    classes: &[u8; 256],
+) -> Judged
+    requires { ⌜ Given (now profile) labels keys (now question) (now classes) ⌝ }
+    ensures { λ r. ⌜ ProofJudged (labelsIn (now (profile .entry))) (keysIn (now (profile .entry))) (questionIn (now (question .entry))) (proofWalked (labelsIn (now (profile .entry))) (now (proof .entry))) (checkedAnswer r) ⌝ }
+{
+    let part = record_at(profile, labels);
+    let mut rest = proof;
+    let mut n = 0;
+    while 0 < rest.len() {
+        let number = judge_line(rest, classes, n);
+        if number != ACCEPTED {
+            return Judged::Refused(number, n);
+        }
+        let end = word(rest, 0);
+        if !follows(part, keys, proof, n, &rest[HEAD_BYTES..end]) {
+            return Judged::Refused(UNFOLLOWED, n);
+        }
+        rest = &rest[end..];
+        n += 1;
+    }
+    last_is(proof, n, question)
+}

@@ -1,0 +1,151 @@
+// Whether one line follows: "Rule 0 cites key number *first premise* of the profile. In the others, premises are earlier line numbers; an
+// unused premise field is 65535."
+use joins::same;
+use places::record_at;
+use rule_tests::rules::context_path;
+use rule_tests::rules::context_target;
+use rule_tests::rules::interaction;
+use rule_tests::rules::prefix_epsilon;
+use rule_tests::rules::subnodes;
+use rule_tests::rules::subnodes_epsilon;
+use rule_tests::rules::superkey;
+use rule_tests::rules::target_path;
+use shapes::bodies::LINE_FIELDS;
+use shapes::fields::HEAD_BYTES;
+use shapes::fields::wide;
+use shapes::fields::word;
+use shapes::keys::target;
+ghost use Prim.Native.Nat.{_<_};
+ghost use mathlib.Core.Path.{_≡_};
+ghost use mathlib.Core.Bool.{true, _&&_};
+ghost use lib.ListN.{length, drop, getElem?};
+ghost use Rattle.meaning.specs.Lists.{isEmpty};
+ghost use Rattle.meaning.specs.Records.{readKey, keyIn, isSome, readLine, recordBody};
+ghost use Rattle.meaning.specs.Rules.{lineKeys};
+ghost use Rattle.meaning.specs.Operations.{recordsFrom};
+ghost use Rattle.theory_lines.specs.LineTest.{followsTest};
+ghost use Rattle.rule_tests.specs.Parts.{LineKey, LineKeys};
+ghost use Rattle.lines.specs.Premises.{keysFrom, linesFrom, KeyRecords, LineRecord, Earlier, LineBody, oneTest, cited, byOne, byTwo};
+
+// "an unused premise field is 65535"
+const NO_NUMBER: usize = 65535;
+// Where the fields of a line stand in its body, and its key in its record.
+const FIRST_AT: usize = 1;
+
+const SECOND_AT: usize = 3;
+
+const KEY_IN_LINE: usize = 9;
+// The rules' numbers.
+const CITATION: usize = 0;
+
+const EPSILON: usize = 1;
+
+const PREFIX_EPSILON: usize = 2;
+
+const SUPERKEY: usize = 3;
+
+const SUBNODES: usize = 4;
+
+const CONTEXT_PATH: usize = 5;
+
+const TARGET_PATH: usize = 6;
+
+const CONTEXT_TARGET: usize = 7;
+
+const SUBNODES_EPSILON: usize = 8;
+
+const INTERACTION: usize = 9;
+
+// "Rule 0 cites key number *first premise* of the profile": equal keys are equal bodies.
+fn cites(part: &[u8], keys: usize, first: usize, k: &[u8]) -> bool
+    requires { ⌜ KeyRecords keys (now part) × (isSome (readKey (now k)) ≡ true) ⌝ }
+    ensures { λ r. ⌜ r ≡ cited (keysFrom keys (now (part .entry))) first (keyIn (now (k .entry))) ⌝ }
+{
+    if keys <= first {
+        return false;
+    }
+    let rest = record_at(part, first);
+    let end = word(rest, 0);
+    same(&rest[HEAD_BYTES..end], k)
+}
+
+// The key body of line n.
+pub fn line_key(proof: &[u8], n: usize) -> &[u8]
+    requires { ⌜ LineRecord (recordsFrom n (now proof)) ⌝ }
+    ensures { λ r. ⌜ now r ≡ drop 5 (recordBody (recordsFrom n (now (proof .entry)))) ⌝ }
+{
+    let rest = record_at(proof, n);
+    let end = word(rest, 0);
+    &rest[KEY_IN_LINE..end]
+}
+
+// A rule of one premise.
+fn by_rule(rule: usize, p: &[u8], k: &[u8]) -> bool
+    requires { ⌜ LineKeys (now p) (now k) ⌝ }
+    ensures { λ r. ⌜ r ≡ oneTest rule (keyIn (now (p .entry))) (keyIn (now (k .entry))) ⌝ }
+{
+    match rule {
+        PREFIX_EPSILON => prefix_epsilon(p, k),
+        SUPERKEY => superkey(p, k),
+        SUBNODES => subnodes(p, k),
+        CONTEXT_PATH => context_path(p, k),
+        TARGET_PATH => target_path(p, k),
+        CONTEXT_TARGET => context_target(p, k),
+        SUBNODES_EPSILON => subnodes_epsilon(p, k),
+        _ => false,
+    }
+}
+
+// "premises are earlier line numbers"
+fn by_one(proof: &[u8], number: usize, rule: usize, first: usize, k: &[u8]) -> bool
+    requires { ⌜ Earlier number (now proof) × LineKey (now k) ⌝ }
+    ensures { λ r. ⌜ r ≡ byOne (lineKeys (linesFrom number (now (proof .entry)))) rule first (keyIn (now (k .entry))) ⌝ }
+{
+    if number <= first {
+        return false;
+    }
+    let p = line_key(proof, first);
+    by_rule(rule, p, k)
+}
+
+fn by_two(proof: &[u8], number: usize, first: usize, second: usize, k: &[u8]) -> bool
+    requires { ⌜ Earlier number (now proof) × LineKey (now k) ⌝ }
+    ensures { λ r. ⌜ r ≡ byTwo (lineKeys (linesFrom number (now (proof .entry)))) first second (keyIn (now (k .entry))) ⌝ }
+{
+    if number <= first {
+        return false;
+    }
+    if number <= second {
+        return false;
+    }
+    let p = line_key(proof, first);
+    let r = line_key(proof, second);
+    interaction(p, r, k)
+}
+
+// Line `number` with this body follows from the profile's keys, which stand in `part`, and the lines before it in the proof.
+pub fn follows(part: &[u8], keys: usize, proof: &[u8], number: usize, body: &[u8]) -> bool
+    requires { ⌜ KeyRecords keys (now part) × Earlier number (now proof) × LineBody (now body) ⌝ }
+    ensures { λ r. ⌜ r ≡ followsTest (keysFrom keys (now (part .entry))) (lineKeys (linesFrom number (now (proof .entry)))) (readLine (now (body .entry))) ⌝ }
+{
+    let rule = wide(body[0]);
+    let first = word(body, FIRST_AT);
+    let second = word(body, SECOND_AT);
+    let k = &body[LINE_FIELDS..];
+    if rule == INTERACTION {
+        return by_two(proof, number, first, second, k);
+    }
+    if second != NO_NUMBER {
+        return false;
+    }
+    if rule == CITATION {
+        return cites(part, keys, first, k);
+    }
+    if rule != EPSILON {
+        return by_one(proof, number, rule, first, k);
+    }
+    if first != NO_NUMBER {
+        return false;
+    }
+    target(k).len() == 0
+}

@@ -1,0 +1,131 @@
+// A whole profile: its size, then its labels and its keys from the front.
+use crate::keys::judge_key;
+use crate::labels::good_label;
+use judged::ACCEPTED;
+use judged::BAD_LABEL;
+use judged::Judged;
+use judged::TOO_LARGE;
+use shapes::bodies::LABEL_KIND;
+use shapes::bodies::whole;
+use shapes::fields::HEAD_BYTES;
+use shapes::fields::KIND_AT;
+use shapes::fields::wide;
+use shapes::fields::word;
+ghost use mathlib.Core.Path.{_≡_};
+ghost use mathlib.Core.Bool.{false};
+ghost use Prim.Native.Nat.{_≤_};
+ghost use lib.ListN.{length};
+ghost use Rattle.records.specs.Agree.{isLabelRecord};
+ghost use Rattle.records.specs.KeyWalks.{KeysSay};
+ghost use Rattle.records.specs.ProfileWalks.{ProfileSays};
+
+// "profile 16,384 bytes"
+const PROFILE_BYTES: usize = 16384;
+// Where number and class stand in a label's record
+const NUMBER_IN_RECORD: usize = 4;
+
+const CLASS_IN_RECORD: usize = 5;
+
+// What the keys come to: the number of the first record that is refused (0: none), and how many keys stand before it.
+pub struct KeysRead {
+    pub number: usize,
+    pub keys: usize,
+}
+
+// The keys, from the first record that is no label's on.
+pub fn read_keys(bytes: &[u8], classes: &[u8; 256]) -> KeysRead
+    requires { ⌜ isLabelRecord (now bytes) ≡ false ⌝ }
+    ensures { λ r. ⌜ KeysSay (now (classes .entry)) (now (bytes .entry)) (r .number) (r .keys) ⌝ }
+{
+    let mut rest = bytes;
+    let mut keys = 0;
+    while 0 < rest.len() {
+        let number = judge_key(rest, keys, classes);
+        if number != ACCEPTED {
+            return KeysRead { number, keys };
+        }
+        let end = word(rest, 0);
+        rest = &rest[end..];
+        keys += 1;
+    }
+    KeysRead {
+        number: ACCEPTED,
+        keys,
+    }
+}
+
+// What a profile comes to: the refusal; where there is none, the class of each label (0: not declared) and how many labels and keys there are.
+pub struct ProfileRead {
+    pub judged: Judged,
+    pub classes: [u8; 256],
+    pub labels: usize,
+    pub keys: usize,
+}
+
+// A whole label's record stands at the front.
+fn is_label_record(rest: &[u8]) -> bool
+    ensures { λ r. ⌜ r ≡ isLabelRecord (now (rest .entry)) ⌝ }
+{
+    if !whole(rest) {
+        return false;
+    }
+    word(rest, KIND_AT) == LABEL_KIND
+}
+
+// "A profile is labels, numbers ascending, then keys.": the records of a profile within its size.
+fn read_records(bytes: &[u8]) -> ProfileRead
+    requires { ⌜ length (now bytes) ≤ 16384 ⌝ }
+    ensures { λ r. ⌜ ProfileSays (now (bytes .entry)) (r .judged) (r .classes) (r .labels) (r .keys) ⌝ }
+{
+    let mut classes = [0u8; 256];
+    let mut rest = bytes;
+    let mut labels = 0;
+    let mut last = 0;
+    while is_label_record(rest) {
+        let end = word(rest, 0);
+        if !good_label(bytes, labels, last, &rest[HEAD_BYTES..end]) {
+            return ProfileRead {
+                judged: Judged::Refused(BAD_LABEL, labels),
+                classes,
+                labels,
+                keys: 0,
+            };
+        }
+        last = wide(rest[NUMBER_IN_RECORD]);
+        classes[last] = rest[CLASS_IN_RECORD];
+        rest = &rest[end..];
+        labels += 1;
+    }
+    let found = read_keys(rest, &classes);
+    let keys = found.keys;
+    let number = found.number;
+    if number != ACCEPTED {
+        return ProfileRead {
+            judged: Judged::Refused(number, labels + keys),
+            classes,
+            labels,
+            keys,
+        };
+    }
+    ProfileRead {
+        judged: Judged::Sound,
+        classes,
+        labels,
+        keys,
+    }
+}
+
+// The refusal of input 1, a profile: its size, then its records from the front.
+pub fn read_profile(bytes: &[u8]) -> ProfileRead
+    ensures { λ r. ⌜ ProfileSays (now (bytes .entry)) (r .judged) (r .classes) (r .labels) (r .keys) ⌝ }
+{
+    if PROFILE_BYTES < bytes.len() {
+        return ProfileRead {
+            judged: Judged::Refused(TOO_LARGE, 0),
+            classes: [0u8; 256],
+            labels: 0,
+            keys: 0,
+        };
+    }
+    read_records(bytes)
+}

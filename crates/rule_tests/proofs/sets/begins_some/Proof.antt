@@ -1,0 +1,84 @@
+use mathlib.Core.Path.{_∙_}
+use Prim.Native.Nat.{_-_}
+use Rattle.meaning.specs.Records.{keyIn}
+use Rattle.theory_lines.specs.Beginnings.{begins}
+use Rattle.rule_tests.specs.Walks.{Hunt, hunt-start, hunt-holds, hunt-done, hunt-hit, hunt-miss, beginning-is}
+use native.Mathlib.Omega.{arith}
+use borrow.Author.Needs.{needs}
+use Rattle.rule_tests.proofs.sets.begins_some.Statement.{statement}
+use Rattle.rule_tests.proofs.sets.begins_some.Tie as tie
+use Rattle.rule_tests.proofs.sets.begins_some.Reads as reads
+use Rattle.rule_tests.proofs.sets.begins_some.Lts as lts
+use Rattle.joins.proofs.begins.Reads as begins-reads
+use Rattle.shapes.proofs.bodies.after_path.Reads as after-path-reads
+use Rattle.shapes.proofs.bodies.lead_path.Reads as lead-path-reads
+use Rattle.shapes.proofs.keys.count.Reads as count-reads
+use Rattle.shapes.proofs.keys.paths.Reads as paths-reads
+
+abbrev Inv-loop : tie.InvT-loop
+Inv-loop path body n rest₀ i₀ rest i = Hunt (begins path) (keyIn body .paths) n i rest
+
+abbrev μ-loop : tie.MeasureT-loop
+μ-loop path body n rest₀ i₀ rest i = n - i
+
+-- src/sets.rt:81:9
+count-requires : tie.Need-count-requires Inv-loop μ-loop
+count-requires c κs = search needs
+
+-- src/sets.rt:82:9
+paths-requires : tie.Need-paths-requires Inv-loop μ-loop
+paths-requires c κs = search needs
+
+-- src/sets.rt:84:5
+loop-holds : tie.Need-loop-holds Inv-loop μ-loop
+loop-holds c = hunt-start _ (c .before .count .ensures .0) (c .paths .ensures)
+
+-- src/sets.rt:85:25
+lead-path-requires : tie.Need-lead-path-requires Inv-loop μ-loop
+lead-path-requires c κs = search (hunt-holds)
+
+-- src/sets.rt:85:12
+begins-requires : tie.Need-begins-requires Inv-loop μ-loop
+begins-requires c κs = search needs
+
+-- src/sets.rt:86:13
+returns : tie.Need-returns Inv-loop μ-loop
+returns c = hunt-hit (c .before .before .before .before .loop .inv) (search needs) (c .before .before .lead-path .ensures) (c .before .begins .ensures ∙ beginning-is _ _) (c .if1 .taken)
+
+-- src/sets.rt:88:13
+after-path-requires : tie.Need-after-path-requires Inv-loop μ-loop
+after-path-requires c κs = search (hunt-holds)
+
+-- src/sets.rt:90:9
+add-i : tie.Need-add-i Inv-loop μ-loop
+add-i c = omega arith
+
+-- src/sets.rt:84:5
+loop-less : tie.Need-loop-less Inv-loop μ-loop
+loop-less c = omega arith
+
+-- src/sets.rt:84:5
+loop-again : tie.Need-loop-again Inv-loop μ-loop
+loop-again c = hunt-miss (c .before .before .before .before .before .loop .inv) (search needs) (c .before .before .before .lead-path .ensures) (c .before .before .begins .ensures ∙ beginning-is _ _) (c .before .if1 .left) (c .after-path .ensures)
+
+-- src/sets.rt:77:1
+returns-2 : tie.Need-returns-2 Inv-loop μ-loop
+returns-2 c = search (hunt-done)
+
+pub begins-some-spec : {M : Type 1} → statement M
+begins-some-spec =
+    tie.close
+    (tie.spec
+    Inv-loop
+    μ-loop
+    count-requires
+    paths-requires
+    loop-holds
+    lead-path-requires
+    begins-requires
+    returns
+    after-path-requires
+    add-i
+    loop-less
+    loop-again
+    returns-2)

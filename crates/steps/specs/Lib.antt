@@ -1,0 +1,4 @@
+pub mod Profile
+pub mod Firing
+pub mod Ranges
+pub mod Finding

@@ -1,0 +1,42 @@
+-- Listing a block of a tree.
+use Prim.Native.Nat.{ℕ, _≤_, _<_}
+use mathlib.Core.Path.{_≡_, refl, sym, _∙_, ap, subst}
+use mathlib.Core.List.{List, [], _∷_, _++_}
+use native.Mathlib.Omega.{arith}
+use lib.ListN.{length, drop, length-append}
+use Rattle.meaning.specs.Refusals.{Refusal, sound, firstRefusal, profileRefusal, treeRefusal, nodesIn, answerRefusal}
+use Rattle.meaning.specs.Listing.{block}
+use Rattle.meaning.specs.Operations.{Answer, Lists, Unless, choose, refusedBy, filled, listed, labelsIn}
+use Rattle.theory_operations.specs.Refusing.{unless-sound, unless-refused, sound-more, sound-end, first-passes, first-stops, answer-small, answer-large, profile-settled, tree-settled, first-named, sound-number}
+
+module _ (profile tree : List ℕ) (k : ℕ) (buffer : List ℕ) where
+  pub list-small : length buffer < 65536 → Lists profile tree k buffer (refusedBy (record { number = 14; input = 4; place = 0 }) buffer)
+  unfolding Lists
+  list-small h =
+      let e = answer-small buffer h in
+      unless-refused _ buffer _ _
+      (first-stops (answerRefusal buffer) _ (λ z. let n : 14 ≡ 0 = sym (ap (λ (r : Refusal). r .number) e) ∙ z in omega arith) ∙ e)
+      (omega arith)
+
+  module _ (room : 65536 ≤ length buffer) where
+    pub list-profile : (r : Refusal) → r ≡ profileRefusal profile → 0 < r .input → Lists profile tree k buffer (refusedBy r buffer)
+    unfolding Lists
+    list-profile r e named =
+        unless-refused _ buffer _ r
+        (first-passes _ _ (answer-large buffer room) ∙ first-named r (profileRefusal profile) _ (profile-settled profile) e named) named
+
+    pub list-tree : (r : Refusal) → sound ≡ profileRefusal profile → r ≡ treeRefusal (labelsIn profile) tree → 0 < r .input
+        → Lists profile tree k buffer (refusedBy r buffer)
+    unfolding Lists
+    list-tree r s e named =
+        unless-refused _ buffer _ r
+        (first-passes _ _ (answer-large buffer room) ∙ first-passes _ _ (sound-number s)
+        ∙ first-named r (treeRefusal (labelsIn profile) tree) _ (tree-settled (labelsIn profile) tree) e named)
+        named
+
+    pub list-block : sound ≡ profileRefusal profile → sound ≡ treeRefusal (labelsIn profile) tree
+        → Lists profile tree k buffer (filled listed (block (labelsIn profile) (nodesIn (labelsIn profile) tree) k) buffer)
+    unfolding Lists
+    list-block s t =
+        unless-sound _ buffer _ _
+        (sound-more _ _ (answer-large buffer room) (sound-more _ _ (sound-number s) (sound-more _ _ (sound-number t) sound-end))) refl

@@ -1,0 +1,95 @@
+-- Verdict "implied": the lines that the remembered steps give are a proof that the check accepts, and what it shows is true of every tree.
+use Prim.Native.Nat.{ℕ, zero, suc, _≤_, _<_}
+use mathlib.Core.Path.{_≡_, refl, sym, _∙_, ap, subst}
+use mathlib.Core.Bool.{Bool, true, false, cond}
+use mathlib.Core.List.{List, [], _∷_, map, flatten}
+use native.Mathlib.Omega.{arith}
+use lib.Dec.{eqb, ltb}
+use borrow.Author.Tests.{le-ltb, eq-eqb}
+use lib.ListN.{length}
+use Rattle.meaning.specs.Limits.{inProfile, inProof, proofBytes}
+use Rattle.meaning.specs.Lists.{Each, end, also}
+use Rattle.meaning.specs.Paths.{Label}
+use Rattle.meaning.specs.Keys.{Key}
+use Rattle.meaning.specs.Rules.{Line, Accepted}
+use Rattle.meaning.specs.Records.{lineBytes}
+use Rattle.meaning.specs.Refusals
+use Rattle.meaning.specs.Refusals.{Refusal, Walked, firstRefusal, oversize, sound, profileRefusal, questionRefusal, questionIn, proofWalked}
+use Rattle.meaning.specs.Pattern.{tOf}
+use Rattle.meaning.specs.Operations
+use Rattle.meaning.specs.Operations.{labelsIn, keysIn, Unless, choose, ChecksProof, ProofJudged, proved, plain, filled, accepted, implied, ProofWritten}
+use Rattle.theory_paths.specs.Good.{GoodLabels, GoodKey}
+use Rattle.theory_records.specs.Profiles.{accepted-labels, accepted-keys, accepted-few}
+use Rattle.theory_records.specs.Questions.{question-accepts}
+use Rattle.theory_records.specs.WrittenInputs.{LineFits, proof-walked-written}
+use Rattle.theory_operations.specs.Refusing.{unless-sound, sound-more, sound-end, fits-size}
+use Rattle.theory_rules.specs.Accepted.{accepted-implied}
+use Rattle.theory_derive.specs.Spots.{Taken, Chain}
+use Rattle.theory_derive.specs.Written.{proofLines}
+use Rattle.theory_derive.specs.Runs.{FineLine}
+use Rattle.theory_derive.specs.Accept.{proof-accepted, proof-fine, proof-few}
+use Rattle.theory_derive.specs.Bytes.{FieldsFit, proof-bytes, proof-fields}
+
+both-fit : (labels : List Label) {lines : List Line} → Each (FineLine labels) lines → Each FieldsFit lines → Each (LineFits labels) lines
+both-fit labels end end = end
+both-fit labels (also g gs) (also f fs) = also (record { first = f .first; second = f .second; good = g .good }) (both-fit labels gs fs)
+
+fine-keys : (labels : List Label) {lines : List Line} → Each (FineLine labels) lines → Each (λ (l : Line). GoodKey labels inProof (l .key)) lines
+fine-keys labels end = end
+fine-keys labels (also g gs) = also (g .good) (fine-keys labels gs)
+
+module _ (profile question : List ℕ) (soundProfile : profileRefusal profile .number ≡ 0)
+    (soundQuestion : questionRefusal (labelsIn profile) question .number ≡ 0) {u : ℕ} {steps : List Taken}
+    (chain : Chain (keysIn profile) (questionIn question) u steps) (reached : u ≡ tOf (questionIn question)) where
+  -- the bytes that are written
+  unfoldable pub proofBytesOf : List ℕ
+  proofBytesOf = flatten (map lineBytes (proofLines (keysIn profile) (questionIn question) steps))
+
+  goodKeys : Each (GoodKey (labelsIn profile) inProfile) (keysIn profile)
+  goodKeys = accepted-keys profile soundProfile
+
+  goodAsked : GoodKey (labelsIn profile) inProfile (questionIn question)
+  goodAsked = question-accepts (labelsIn profile) question soundQuestion .good
+
+  fine : Each (FineLine (labelsIn profile)) (proofLines (keysIn profile) (questionIn question) steps)
+  fine = proof-fine (labelsIn profile) (keysIn profile) (questionIn question) goodKeys goodAsked chain reached
+
+  few : length (proofLines (keysIn profile) (questionIn question) steps) ≤ 66
+  few = proof-few (labelsIn profile) (keysIn profile) (questionIn question) goodKeys goodAsked chain
+
+  holds-lines : Accepted (labelsIn profile) (keysIn profile) (questionIn question) (proofLines (keysIn profile) (questionIn question) steps)
+  holds-lines = proof-accepted (labelsIn profile) (keysIn profile) (questionIn question) goodKeys goodAsked chain reached
+
+  walked : proofWalked (labelsIn profile) proofBytesOf
+      ≡ record { number = 0; at = length (proofLines (keysIn profile) (questionIn question) steps); state = proofLines (keysIn profile) (questionIn question) steps }
+  unfolding proofBytesOf
+  walked =
+      proof-walked-written (labelsIn profile) _
+      (both-fit (labelsIn profile) fine
+      (proof-fields (labelsIn profile) (keysIn profile) (questionIn question) goodKeys goodAsked
+      (let f = accepted-few profile soundProfile in omega arith) chain))
+      (let f = few in omega arith)
+
+  pub proof-size : length proofBytesOf ≤ 65536
+  unfolding proofBytesOf
+  proof-size = proof-bytes (labelsIn profile) (keysIn profile) (questionIn question) goodKeys goodAsked chain reached
+
+  pub proof-checks : ChecksProof profile question proofBytesOf (plain accepted)
+  unfolding ChecksProof
+  proof-checks =
+      unless-sound _ [] _ (plain accepted)
+      (sound-more _ _ soundProfile (sound-more _ _ soundQuestion (sound-more _ _ (fits-size 3 proofBytes proofBytesOf proof-size) sound-end)))
+      (subst (λ (w : Walked (List Line)). ProofJudged (labelsIn profile) (keysIn profile) (questionIn question) w (plain accepted)) (sym walked)
+      (proved (holds-lines .each) refl (holds-lines .last) refl))
+
+  pub implied-written : (buffer : List ℕ) → 65536 ≤ length buffer → ProofWritten profile question buffer (filled implied proofBytesOf buffer)
+  implied-written buffer room =
+      record {
+        holds =
+            accepted-implied (labelsIn profile) (keysIn profile) (questionIn question) _ (accepted-labels profile soundProfile)
+            (fine-keys (labelsIn profile) fine) holds-lines;
+        bytes = proofBytesOf;
+        checked = proof-checks;
+        answered = refl;
+        fits = let h = proof-size in omega arith;
+      }

@@ -1,0 +1,3 @@
+pub mod Implied
+pub mod NotImplied
+pub mod Returns

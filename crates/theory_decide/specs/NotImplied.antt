@@ -1,0 +1,108 @@
+-- Verdict "not implied": the tree that is fixed is a file that the counterexample check accepts, so no proof can be written; and it never
+-- has over 256 nodes.
+use Prim.Native.Nat.{ℕ, _*_, _≤_, _<_}
+use mathlib.Core.Path.{_≡_, refl, sym, ap, subst}
+use mathlib.Core.List.{List, []}
+use native.Mathlib.Omega.{arith}
+use lib.ListN.{length}
+use Rattle.meaning.specs.Limits.{inProfile}
+use Rattle.meaning.specs.Lists.{Each}
+use Rattle.meaning.specs.Paths.{classOf}
+use Rattle.meaning.specs.Trees.{tableOf}
+use Rattle.meaning.specs.Keys.{Breaks, Keeps}
+use Rattle.meaning.specs.Refusals.{Refusal, profileRefusal, questionRefusal, questionIn}
+use Rattle.meaning.specs.Pattern.{tOf, IsU, writtenNodes, writtenTree}
+use Rattle.meaning.specs.Operations
+use Rattle.meaning.specs.Operations.{
+  labelsIn,
+  keysIn,
+  treeIn,
+  KeepsIn,
+  BreaksIn,
+  treeRefusals,
+  ChecksCounterexample,
+  refutes,
+  plain,
+  filled,
+  accepted,
+  notImplied,
+  TreeWritten,
+  TreeTooLarge,
+}
+use Rattle.theory_paths.specs.Good.{GoodLabels, GoodKey}
+use Rattle.theory_records.specs.Profiles.{accepted-labels, accepted-keys}
+use Rattle.theory_records.specs.Questions.{question-accepts}
+use Rattle.theory_records.specs.WrittenInputs.{nodes-size}
+use Rattle.theory_counter.specs.Counterexample.{counter-breaks, counter-keeps, counter-not-implied}
+use Rattle.theory_counter.specs.WrittenFile.{counter-accepted, counter-read}
+use Rattle.theory_counter.specs.Size.{written-most}
+use Rattle.theory_operations.specs.Refusing.{unless-sound, sound-more, sound-end}
+
+module _ (profile question : List ℕ) (soundProfile : profileRefusal profile .number ≡ 0)
+    (soundQuestion : questionRefusal (labelsIn profile) question .number ≡ 0) (u : ℕ) (isU : IsU (keysIn profile) (questionIn question) u) where
+  goodLabels : GoodLabels (labelsIn profile)
+  goodLabels = accepted-labels profile soundProfile
+
+  goodAsked : GoodKey (labelsIn profile) inProfile (questionIn question)
+  goodAsked = question-accepts (labelsIn profile) question soundQuestion .good
+
+  -- request 8: refusal 11 is never given
+  pub tree-most : length (writtenNodes (classOf (labelsIn profile)) (questionIn question) u) ≤ 178
+  tree-most = written-most (classOf (labelsIn profile)) (labelsIn profile) (questionIn question) goodAsked u (isU .fromQ) (isU .toT)
+
+  -- "bytes used, which is 9 times the nodes"
+  pub tree-bytes : length (writtenTree (classOf (labelsIn profile)) (questionIn question) u)
+      ≡ 9 * length (writtenNodes (classOf (labelsIn profile)) (questionIn question) u)
+  unfolding writtenTree
+  tree-bytes = nodes-size (labelsIn profile) (writtenNodes (classOf (labelsIn profile)) (questionIn question) u)
+
+  module _ (low : u < tOf (questionIn question)) where
+    -- the file says the written nodes
+    same-tree : treeIn profile (writtenTree (classOf (labelsIn profile)) (questionIn question) u)
+        ≡ tableOf (writtenNodes (classOf (labelsIn profile)) (questionIn question) u)
+    unfolding treeIn
+    same-tree = ap tableOf (counter-read (labelsIn profile) goodLabels (questionIn question) goodAsked u (isU .fromQ) low)
+
+    keeps-all : Each (KeepsIn profile (writtenTree (classOf (labelsIn profile)) (questionIn question) u)) (keysIn profile)
+    unfolding KeepsIn
+    keeps-all =
+        subst (λ t. Each (Keeps (classOf (labelsIn profile)) t) (keysIn profile)) (sym same-tree)
+        (counter-keeps (labelsIn profile) goodLabels inProfile (questionIn question) goodAsked u low (keysIn profile) isU (accepted-keys profile soundProfile))
+
+    breaks-question : BreaksIn profile (writtenTree (classOf (labelsIn profile)) (questionIn question) u) (questionIn question)
+    unfolding BreaksIn
+    breaks-question =
+        subst (λ t. Breaks (classOf (labelsIn profile)) t (questionIn question)) (sym same-tree)
+        (counter-breaks (labelsIn profile) goodLabels inProfile (questionIn question) goodAsked u low (keysIn profile) isU)
+
+    pub tree-checks : ChecksCounterexample profile question (writtenTree (classOf (labelsIn profile)) (questionIn question) u) (plain accepted)
+    unfolding ChecksCounterexample treeRefusals
+    tree-checks =
+        unless-sound _ [] _ (plain accepted)
+        (sound-more _ _ soundProfile
+        (sound-more _ _ soundQuestion
+        (sound-more _ _
+        (ap (λ (r : Refusal). r .number) (counter-accepted (labelsIn profile) goodLabels (questionIn question) goodAsked u (isU .fromQ) low)) sound-end)))
+        (refutes keeps-all breaks-question refl)
+
+    pub not-implied-written : (buffer : List ℕ)
+        → TreeWritten profile question buffer (filled notImplied (writtenTree (classOf (labelsIn profile)) (questionIn question) u) buffer)
+    not-implied-written buffer =
+        record {
+          fails =
+              counter-not-implied (labelsIn profile) goodLabels inProfile (questionIn question) goodAsked u low (keysIn profile) isU
+              (accepted-keys profile soundProfile);
+          u = u;
+          isU = isU;
+          within = let m = tree-most in omega arith;
+          checked = tree-checks;
+          answered = refl;
+        }
+
+-- refusal 11 is never given
+pub never-too-large : (profile question buffer : List ℕ) → questionRefusal (labelsIn profile) question .number ≡ 0 → profileRefusal profile .number ≡ 0
+    → (answer : Operations.Answer) → TreeTooLarge profile question buffer answer → ⊥
+never-too-large profile question buffer q p answer t =
+    let m = tree-most profile question p q (t .u) (t .isU) in
+    let b = t .beyond in
+    omega arith

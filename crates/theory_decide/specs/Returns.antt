@@ -1,0 +1,59 @@
+-- One law for each `return` of the operation that decides a question.
+use Prim.Native.Nat.{ℕ, _≤_, _<_}
+use mathlib.Core.Path.{_≡_, refl, sym, _∙_, ap, subst}
+use mathlib.Core.Logic.{_⊎_, inl, inr}
+use mathlib.Core.List.{List, [], _∷_}
+use native.Mathlib.Omega.{arith}
+use lib.ListN.{length}
+use Rattle.meaning.specs.Paths.{classOf}
+use Rattle.meaning.specs.Refusals
+use Rattle.meaning.specs.Refusals.{Refusal, sound, profileRefusal, questionRefusal, questionIn, answerRefusal}
+use Rattle.meaning.specs.Pattern.{IsU, tOf, writtenTree}
+use Rattle.meaning.specs.Operations.{Decides, refusedBy, filled, implied, notImplied, labelsIn, keysIn}
+use Rattle.theory_operations.specs.Refusing.{unless-sound, unless-refused, sound-more, sound-end, first-passes, first-stops, answer-small, answer-large, profile-settled, question-settled, first-named, sound-number}
+use Rattle.theory_derive.specs.Spots.{Taken, Chain}
+use Rattle.theory_decide.specs.Implied.{proofBytesOf, implied-written}
+use Rattle.theory_decide.specs.NotImplied.{not-implied-written}
+
+module _ (profile question buffer : List ℕ) where
+  pub decide-small : length buffer < 65536 → Decides profile question buffer (refusedBy (record { number = 14; input = 4; place = 0 }) buffer)
+  unfolding Decides
+  decide-small h =
+      let e = answer-small buffer h in
+      unless-refused _ buffer _ _
+      (first-stops (answerRefusal buffer) _ (λ z. let n : 14 ≡ 0 = sym (ap (λ (r : Refusal). r .number) e) ∙ z in omega arith) ∙ e)
+      (omega arith)
+
+  module _ (room : 65536 ≤ length buffer) where
+    pub decide-profile : (r : Refusal) → r ≡ profileRefusal profile → 0 < r .input → Decides profile question buffer (refusedBy r buffer)
+    unfolding Decides
+    decide-profile r e named =
+        unless-refused _ buffer _ r
+        (first-passes _ _ (answer-large buffer room) ∙ first-named r (profileRefusal profile) _ (profile-settled profile) e named) named
+
+    module _ (p : sound ≡ profileRefusal profile) where
+      pub decide-question : (r : Refusal) → r ≡ questionRefusal (labelsIn profile) question → 0 < r .input
+          → Decides profile question buffer (refusedBy r buffer)
+      unfolding Decides
+      decide-question r e named =
+          unless-refused _ buffer _ r
+          (first-passes _ _ (answer-large buffer room) ∙ first-passes _ _ (sound-number p)
+          ∙ first-named r (questionRefusal (labelsIn profile) question) _ (question-settled (labelsIn profile) question) e named)
+          named
+
+      module _ (q : sound ≡ questionRefusal (labelsIn profile) question) where
+        passed : Refusals.firstRefusal (answerRefusal buffer ∷ profileRefusal profile ∷ questionRefusal (labelsIn profile) question ∷ []) .number ≡ 0
+        passed = sound-more _ _ (answer-large buffer room) (sound-more _ _ (sound-number p) (sound-more _ _ (sound-number q) sound-end))
+
+        pub decide-implied : {u : ℕ} {steps : List Taken} (chain : Chain (keysIn profile) (questionIn question) u steps)
+            (reached : u ≡ tOf (questionIn question))
+            → Decides profile question buffer (filled implied (proofBytesOf profile question (sound-number p) (sound-number q) chain reached) buffer)
+        unfolding Decides
+        decide-implied chain reached =
+            unless-sound _ buffer _ _ passed (inl (implied-written profile question (sound-number p) (sound-number q) chain reached buffer room))
+
+        pub decide-not : (u : ℕ) → IsU (keysIn profile) (questionIn question) u → u < tOf (questionIn question)
+            → Decides profile question buffer (filled notImplied (writtenTree (classOf (labelsIn profile)) (questionIn question) u) buffer)
+        unfolding Decides
+        decide-not u isU below =
+            unless-sound _ buffer _ _ passed (inr (inl (not-implied-written profile question (sound-number p) (sound-number q) u isU below buffer)))

@@ -1,0 +1,143 @@
+-- ARGUMENT 4: the loop's final u is the u of 01, and where it is t the steps lead from t to q.
+use Prim.Native.Nat.{ℕ, zero, suc, _+_, _-_, _≤_, _<_, min}
+use mathlib.Core.Path.{_≡_, refl, sym, ap, subst, _∙_}
+use mathlib.Core.Logic.{_⊎_, inl, inr, ⊎-elim}
+use mathlib.Core.List.{List, List·Memᴰ, List·Memᴰ·head, List·Memᴰ·tail}
+use mathlib.Core.Option.{some}
+use native.Mathlib.Omega.{arith}
+use lib.ListN.{length, getElem?}
+use Rattle.meaning.specs.Limits.{inProfile}
+use Rattle.meaning.specs.Lists.{Each}
+use Rattle.meaning.specs.Paths.{Label}
+use Rattle.meaning.specs.Keys.{Key}
+use Rattle.meaning.specs.Pattern.{pattern, tOf, qOf, Step, toChild, byKey, Leads, arrived, onward, IsU}
+use Rattle.theory_paths.specs.Bools.{Each-at}
+use Rattle.theory_paths.specs.Good.{GoodLabels, GoodKey, paths-some}
+use Rattle.theory_derive.specs.Logic.{less-or}
+use Rattle.theory_derive.specs.Spots.{Taken, Fires, Chain, begun, taken}
+use Rattle.theory_derive.specs.Lines.{line-length}
+use Rattle.theory_derive.specs.Numbers.{spotNode, spot-chain, spot-branch}
+use Rattle.theory_derive.specs.Places.{IsSpot, Place, spot-child, spot-parent, spot-above, place-of, spot-once}
+use Rattle.theory_derive.specs.Steps.{OnLines, fires-step, on-lines}
+use Rattle.theory_derive.specs.Accept.{turns}
+
+-- a member of a list has a number there
+pub record Numbered {A : Type 0} (xs : List A) (x : A) : Type 0 where
+  pub number : ℕ
+  pub found : getElem? xs number ≡ some x
+
+pub mem-number : {A : Type 0} {x : A} {xs : List A} → List·Memᴰ x xs → Numbered xs x
+mem-number (List·Memᴰ·head e) = record { number = 0; found = ap some (sym e) }
+mem-number (List·Memᴰ·tail m) = let r = mem-number m in record { number = suc (r .number); found = r .found }
+
+-- ---- down-steps are free
+
+module _ (keys : List Key) (asked : Key) where
+  pub leads-down : (d i j k z : ℕ) → k ≡ i + d → IsSpot asked j k → Leads keys asked (spotNode asked j k) z → Leads keys asked (spotNode asked j i) z
+  leads-down zero i j k z e s r = subst (λ m. Leads keys asked (spotNode asked j m) z) (let q : k ≡ i = omega arith in q) r
+  leads-down (suc d) i j k z e s r =
+      onward (spotNode asked j (suc i)) (toChild (spot-child asked j i (spot-above asked j (suc i) k (omega arith) s)))
+      (leads-down d (suc i) j k z (omega arith) s r)
+
+  -- each u of the loop leads to q
+  pub chain-leads : {u : ℕ} {steps : List Taken} → Chain keys asked u steps → Leads keys asked u (qOf asked)
+  chain-leads begun = arrived refl
+  chain-leads (taken {u} t chain un f uk iu) =
+      let g = f .firing in
+      let j = t .branch in
+      let k = t .spot in
+      let spot : IsSpot asked j k = record { isBranch = g .isBranch; onLine = g .onLine } in
+      let chained : IsSpot asked j u = record { isBranch = g .isBranch; onLine = omega (arith, line-length asked j) } in
+      let back : Leads keys asked (t .node) (qOf asked) =
+      subst (λ x. Leads keys asked x (qOf asked)) (spot-chain asked j (t .node) (g .onChain))
+      (leads-down (u - t .node) (t .node) j u (qOf asked) (omega arith) chained
+      (subst (λ x. Leads keys asked x (qOf asked)) (sym (spot-chain asked j u (omega arith))) (chain-leads chain))) in
+      subst (λ x. Leads keys asked x (qOf asked)) (spot-chain asked j (min k (tOf asked)) (omega arith))
+      (leads-down (k - min k (tOf asked)) (min k (tOf asked)) j k (qOf asked) (omega arith) spot (onward (t .node) (fires-step asked keys t f) back))
+
+-- ---- what lies below u stays below it
+
+-- x is a spot deeper than u
+pub record Below (asked : Key) (u x : ℕ) : Type 0 where
+  pub branch : ℕ
+  pub depth : ℕ
+  pub spot : IsSpot asked branch depth
+  pub place : x ≡ spotNode asked branch depth
+  pub deeper : u < depth
+
+module _ (labels : List Label) (gl : GoodLabels labels) (keys : List Key) (asked : Key) (gk : Each (GoodKey labels inProfile) keys)
+    (g : GoodKey labels inProfile asked) where
+  -- a key step of the pattern that ends on the chain is a step on the lines
+  pub step-fires : (s : Key) → List·Memᴰ s keys → (x y : ℕ) → OnLines asked s x y → y ≤ tOf asked
+      → (t : Taken) × Fires keys asked t × (x ≡ spotNode asked (t .branch) (t .spot)) × (t .node ≡ y)
+  step-fires s m x y o h =
+      let n = mem-number m in
+      let c : o .top ≤ tOf asked = ⊎-elim (λ l. absurd (omega (arith, o .to, spot-deep (o .branch) (o .top) l))) (λ l. l) (less-or (tOf asked) (o .top)) in (
+        record { key = n .number; node = o .top; branch = o .branch; spot = o .depth },
+        record { by = s; cited = n .found; firing = o .firing c },
+        o .from,
+        sym (o .to ∙ spot-chain asked (o .branch) (o .top) c),
+      )
+    where
+      spot-deep : (j k : ℕ) → tOf asked < k → tOf asked < spotNode asked j k
+      spot-deep j k l = rw (spot-branch asked j k l) (omega arith)
+
+  module _ (u : ℕ) (un : u ≤ tOf asked) (final : (t : Taken) → Fires keys asked t → u < t .spot → t .node ≤ u → ⊥) where
+    step-below : (x y : ℕ) → Below asked u x → Step keys asked x y → Below asked u y
+    step-below x y b (toChild c) = go (place-of asked (paths-some labels inProfile asked g) y (c .inside))
+      where
+        at : (j k : ℕ) → IsSpot asked j k → y ≡ spotNode asked j k → Below asked u y
+        at j zero s e = absurd (let z : y ≡ 0 = e ∙ spot-chain asked j 0 (omega arith) in omega (arith, c .notRoot))
+        at j (suc k) s e =
+            let o = spot-once asked (b .branch) j (b .depth) k (b .spot) (spot-above asked j k (suc k) (omega arith) s)
+            (sym (b .place) ∙ sym (c .below) ∙ ap (pattern asked .parent) e ∙ spot-parent asked j k s) in
+            record { branch = j; depth = suc k; spot = s; place = e; deeper = omega (arith, o .0, b .deeper) }
+
+        go : Place asked y → Below asked u y
+        go p = at (p .branch) (p .depth) (p .spot) (p .place)
+    step-below x y b (byKey s m rc rt lands) = go (less-or u (o .top))
+      where
+        o : OnLines asked s x y
+        o = on-lines labels gl asked g s (Each-at gk s m) x y rc rt lands
+
+        deep : u < o .depth
+        deep = omega (arith, spot-once asked (b .branch) (o .branch) (b .depth) (o .depth) (b .spot) (o .spot) (sym (b .place) ∙ o .from) .0, b .deeper)
+
+        go : (u < o .top) ⊎ (o .top ≤ u) → Below asked u y
+        go (inl l) = record { branch = o .branch; depth = o .top; spot = spot-above asked (o .branch) (o .top) (o .depth) (o .above) (o .spot); place = o .to; deeper = l }
+        go (inr l) =
+            let n = mem-number m in
+            absurd (final (record { key = n .number; node = o .top; branch = o .branch; spot = o .depth })
+            (record { by = s; cited = n .found; firing = o .firing (omega arith) }) deep l)
+
+    leads-below : {x z : ℕ} → Below asked u x → Leads keys asked x z → Below asked u z
+    leads-below b (arrived e) = record { branch = b .branch; depth = b .depth; spot = b .spot; place = sym e ∙ b .place; deeper = b .deeper }
+    leads-below {x} b (onward y s r) = leads-below (step-below x y b s) r
+
+  -- "u < n: not implied, and this u is the u of 01": nothing lets a spot below u step to u or above it
+  pub chain-is-u : {u : ℕ} {steps : List Taken} → Chain keys asked u steps
+      → ((t : Taken) → Fires keys asked t → u < t .spot → t .node ≤ u → ⊥) → IsU keys asked u
+  chain-is-u {u} {steps} chain final =
+      record {
+        fromQ = omega (arith, r .0);
+        toT = r .1;
+        leads = chain-leads keys asked chain;
+        lowest = lowest;
+      }
+    where
+      r : (qOf asked + length steps ≤ u) × (u ≤ tOf asked)
+      r = turns labels keys asked gk g chain
+
+      lowest : (v : ℕ) → u < v → v ≤ tOf asked → Leads keys asked v (qOf asked) → ⊥
+      lowest v l n h =
+          let m = paths-some labels inProfile asked g in
+          let spot : (w : ℕ) → w ≤ tOf asked → IsSpot asked 0 w = λ w k. record { isBranch = m; onLine = omega (arith, line-length asked 0) } in
+          let b = leads-below u (r .1) final
+          (record { branch = 0; depth = v; spot = spot v n; place = sym (spot-chain asked 0 v n); deeper = l }) h in
+          let o = spot-once asked (b .branch) 0 (b .depth) (qOf asked) (b .spot) (spot (qOf asked) (omega (arith, r .0, r .1)))
+          (sym (b .place) ∙ sym (spot-chain asked 0 (qOf asked) (omega (arith, r .0, r .1)))) in
+          omega (arith, o .0, b .deeper, r .0)
+
+  -- "u = n at the end: implied"
+  pub chain-implies : {u : ℕ} {steps : List Taken} → Chain keys asked u steps → u ≡ tOf asked → Leads keys asked (tOf asked) (qOf asked)
+  chain-implies chain e = subst (λ x. Leads keys asked x (qOf asked)) e (chain-leads keys asked chain)

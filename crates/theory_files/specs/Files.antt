@@ -1,0 +1,92 @@
+-- The table of classes says the class of every label, and the table read off an accepted tree's bytes is the table of its nodes.
+use Prim.Native.Nat.{ℕ, zero, suc, _+_, _*_, _/_, _≤_, _<_}
+use mathlib.Core.Path.{_≡_, refl, sym, _∙_, ap, ap₂, subst, fun-ext}
+use mathlib.Core.Bool.{Bool, true, false, cond}
+use mathlib.Core.List.{List, []}
+use native.Mathlib.Omega.{arith}
+use native.Mathlib.Decide.{decLt}
+use lib.Dec.{T, eqb}
+use borrow.Author.Tests.{ne-eqb}
+use lib.ListN.{length, getD, List·getD-eq-default}
+use Rattle.meaning.specs.Limits.{treeNodes, rootLabel}
+use Rattle.meaning.specs.Paths.{Class, element, isElement, Label, classOf, declaredClass}
+use Rattle.meaning.specs.Trees.{Table, Node, noNode, tableOf, IsTree}
+use Rattle.meaning.specs.Records.{word}
+use Rattle.meaning.specs.Refusals.{treeRefusal, nodesIn}
+use Rattle.theory_paths.specs.Good.{GoodLabels, undeclared-class, undeclared-high}
+use Rattle.theory_records.specs.TreeFiles.{nodeAt, TreeAccepted, tree-accepts, tree-is-tree}
+use Rattle.shapes.specs.Classes.{Tabled, classBy, class-tabled}
+use Rattle.tree_nodes.specs.FileTable.{fileTable, TreeBytes}
+
+-- a label beyond the table is an element by both
+beyond-table : (classes : List ℕ) (n : ℕ) → length classes ≤ 256 → 256 ≤ n → classBy classes n ≡ element
+unfolding classBy
+beyond-table classes n small h = rw (ne-eqb n 1 (λ e. omega arith), ne-eqb n 202 (λ e. omega arith), List·getD-eq-default classes 0 {n = n} (omega arith)) refl
+
+beyond-labels : (labels : List Label) → GoodLabels labels → (n : ℕ) → 256 ≤ n → classOf labels n ≡ element
+unfolding classOf
+beyond-labels labels good n h =
+    rw (ne-eqb n 1 (λ e. omega arith), ne-eqb n 202 (λ e. omega arith)) (undeclared-class labels n (undeclared-high labels good n (omega arith)))
+
+pub class-same : (labels : List Label) → GoodLabels labels → (classes : List ℕ) → length classes ≤ 256 → Tabled labels classes
+    → classBy classes ≡ classOf labels
+class-same labels good classes small tabled = fun-ext (λ n. go n (decLt n 256))
+  where
+    go : (n : ℕ) → Dec (n < 256) → classBy classes n ≡ classOf labels n
+    go n (yes h) = class-tabled tabled n h
+    go n (no h) = beyond-table classes n small (omega arith) ∙ sym (beyond-labels labels good n (omega arith))
+
+module _ (labels : List Label) (bytes : List ℕ) (accepted : treeRefusal labels bytes .number ≡ 0) where
+  facts : TreeAccepted labels bytes
+  facts = tree-accepts labels bytes accepted
+
+  past : (i : ℕ) → length bytes ≤ i → getD bytes i 0 ≡ 0
+  past i h = List·getD-eq-default bytes 0 {n = i} h
+
+  none : (i : ℕ) → length bytes ≤ 9 * i → nodeAt bytes i ≡ noNode
+  unfolding nodeAt word
+  none i h =
+      rw (past (9 * i + 4) (omega arith), past (9 * i + 4 + 1) (omega arith), past (9 * i + 6) (omega arith), past (9 * i + 7) (omega arith), past (9 * i + 7 + 1) (omega arith)) refl
+
+  node-same : (i : ℕ) → nodeAt bytes i ≡ getD (nodesIn labels bytes) i noNode
+  node-same i = go (decLt i (length (nodesIn labels bytes)))
+    where
+      size : length bytes ≡ 9 * length (nodesIn labels bytes)
+      size = facts .size
+
+      go : Dec (i < length (nodesIn labels bytes)) → nodeAt bytes i ≡ getD (nodesIn labels bytes) i noNode
+      go (yes h) = sym (facts .are i h)
+      go (no h) = none i (omega (arith, size)) ∙ sym (List·getD-eq-default (nodesIn labels bytes) noNode {n = i} (omega arith))
+
+  pub file-table : fileTable bytes ≡ tableOf (nodesIn labels bytes)
+  unfolding fileTable tableOf nodeAt
+  file-table =
+      let size : length bytes ≡ 9 * length (nodesIn labels bytes) = facts .size in
+      let count : length bytes / 9 ≡ length (nodesIn labels bytes) = omega arith in
+      λ i. record {
+        size = count i;
+        parent = λ n. ap (λ (x : Node). x .parent) (node-same n) i;
+        label = λ n. ap (λ (x : Node). x .label) (node-same n) i;
+        value = λ n. ap (λ (x : Node). x .value) (node-same n) i;
+      }
+
+  -- what the code over a tree asks of its bytes
+  pub tree-bytes : GoodLabels labels → (classes : List ℕ) → length classes ≤ 256 → Tabled labels classes → TreeBytes classes bytes
+  unfolding tableOf
+  tree-bytes good classes small tabled =
+      let same = class-same labels good classes small tabled in
+      let t : IsTree (classBy classes) (fileTable bytes) =
+      subst (λ κ. IsTree κ (fileTable bytes)) (sym same)
+      (subst (λ (x : Table). IsTree (classOf labels) x) (sym file-table) (tree-is-tree labels good bytes accepted)) in
+      let e : fileTable bytes .size ≡ length (nodesIn labels bytes) = ap (λ (x : Table). x .size) file-table in
+      let size : length bytes ≡ 9 * length (nodesIn labels bytes) = facts .size in
+      let few : length (nodesIn labels bytes) ≤ 4096 = facts .few in
+      record {
+        whole = omega arith;
+        some = t .some;
+        few = omega arith;
+        root = t .root;
+        notRoot = λ n p h. t .rest n p h .notRoot;
+        above = λ n p h. t .rest n p h .above;
+        inside = λ n p h. t .rest n p h .inside;
+      }

@@ -1,0 +1,1 @@
+// Laws alone: what is drawn is the dressed pattern.

@@ -1,0 +1,129 @@
+// One node record beside those before it in the file.
+use judged::ACCEPTED;
+use judged::BAD_NODE;
+use judged::NOT_ALLOWED;
+use judged::NOT_WHOLE;
+use judged::TOO_LARGE;
+use shapes::bodies::NODE_KIND;
+use shapes::bodies::whole;
+use shapes::fields::HEAD_BYTES;
+use shapes::fields::KIND_AT;
+use shapes::fields::node_label;
+use shapes::fields::node_parent;
+use shapes::fields::node_value;
+use shapes::fields::too_many;
+use shapes::fields::wide;
+use shapes::fields::word;
+use tree_nodes::fields::NODE_BYTES;
+use tree_nodes::fields::is_element;
+ghost use mathlib.Core.Path.{_≡_};
+ghost use Prim.Native.Nat.{_*_, _<_, _≤_};
+ghost use lib.ListN.{length};
+ghost use Rattle.meaning.specs.Records.{readNode};
+ghost use Rattle.meaning.specs.Refusals.{firstOf, goodRoot};
+ghost use Rattle.shapes.specs.Classes.{isLabelBy};
+ghost use Rattle.tree_records.specs.Nodes.{goodBelowBy, goodNodeBy, nodeTestsBy};
+
+// "Label 1 is text"; "201 is a filler element, 202 a filler attribute, 203 the root"
+const TEXT: usize = 1;
+
+const FILLER_ELEMENT: usize = 201;
+
+const FILLER_ATTRIBUTE: usize = 202;
+
+const ROOT_LABEL: usize = 203;
+// "the root is node 0 with parent 65535"
+const NO_NUMBER: usize = 65535;
+// "tree 4,096 nodes (36,864 bytes)"
+pub const TREE_NODES: usize = 4096;
+// Where the label stands in a node's record
+const LABEL_IN_RECORD: usize = 6;
+// A label that the class table does not declare
+const UNDECLARED: u8 = 0;
+
+// "A tree file holds only these three, 1 and declared labels."
+pub fn is_label(classes: &[u8; 256], label: usize) -> bool
+    requires { ⌜ label < 256 ⌝ }
+    ensures { λ r. ⌜ r ≡ isLabelBy (now (classes .entry)) label ⌝ }
+{
+    if label == TEXT {
+        return true;
+    }
+    if label == FILLER_ELEMENT {
+        return true;
+    }
+    if label == FILLER_ATTRIBUTE {
+        return true;
+    }
+    let class = classes[label];
+    class != UNDECLARED
+}
+
+// "the root is node 0 with parent 65535"; "203 at the root alone"; "An element's value is 0"
+fn good_root(body: &[u8]) -> bool
+    requires { ⌜ 5 ≤ length (now body) ⌝ }
+    ensures { λ r. ⌜ r ≡ goodRoot (readNode (now (body .entry))) ⌝ }
+{
+    if node_parent(body) != NO_NUMBER {
+        return false;
+    }
+    if node_label(body) != ROOT_LABEL {
+        return false;
+    }
+    node_value(body) == 0
+}
+
+// "A node's parent has a smaller number"; "parent is attribute or text"; "An element's value is 0"
+fn good_below(bytes: &[u8], nodes: usize, body: &[u8], classes: &[u8; 256]) -> bool
+    requires { ⌜ (9 * nodes ≤ length (now bytes)) × (5 ≤ length (now body)) ⌝ }
+    ensures { λ r. ⌜ r ≡ goodBelowBy (now (classes .entry)) (now (bytes .entry)) nodes (readNode (now (body .entry))) ⌝ }
+{
+    let parent = node_parent(body);
+    if nodes <= parent {
+        return false;
+    }
+    let above = wide(bytes[NODE_BYTES * parent + LABEL_IN_RECORD]);
+    if !is_element(classes, above) {
+        return false;
+    }
+    let label = node_label(body);
+    if !is_label(classes, label) {
+        return false;
+    }
+    if !is_element(classes, label) {
+        return true;
+    }
+    node_value(body) == 0
+}
+
+// 8: "parent, label or value not as above; parent is attribute or text"
+fn good_node(bytes: &[u8], nodes: usize, body: &[u8], classes: &[u8; 256]) -> bool
+    requires { ⌜ (9 * nodes ≤ length (now bytes)) × (5 ≤ length (now body)) ⌝ }
+    ensures { λ r. ⌜ r ≡ goodNodeBy (now (classes .entry)) (now (bytes .entry)) nodes (readNode (now (body .entry))) ⌝ }
+{
+    if nodes == 0 {
+        return good_root(body);
+    }
+    good_below(bytes, nodes, body, classes)
+}
+
+// The number that the node record at the front of `rest` gives, after so many nodes at the front of `bytes`.
+pub fn judge_node(bytes: &[u8], nodes: usize, rest: &[u8], classes: &[u8; 256]) -> usize
+    requires { ⌜ 9 * nodes ≤ length (now bytes) ⌝ }
+    ensures { λ r. ⌜ r ≡ firstOf (nodeTestsBy (now (classes .entry)) (now (bytes .entry)) nodes (now (rest .entry))) ⌝ }
+{
+    if too_many(rest, NODE_KIND, TREE_NODES, nodes) {
+        return TOO_LARGE;
+    }
+    if !whole(rest) {
+        return NOT_WHOLE;
+    }
+    if word(rest, KIND_AT) != NODE_KIND {
+        return NOT_ALLOWED;
+    }
+    let end = word(rest, 0);
+    if good_node(bytes, nodes, &rest[HEAD_BYTES..end], classes) {
+        return ACCEPTED;
+    }
+    BAD_NODE
+}

@@ -1,0 +1,40 @@
+// A whole tree file: its size, then its records from the front.
+use crate::nodes::judge_node;
+use judged::ACCEPTED;
+use judged::BAD_NODE;
+use judged::Judged;
+use judged::TOO_LARGE;
+use shapes::fields::word;
+ghost use mathlib.Core.Path.{_≡_};
+ghost use mathlib.Core.List.{List};
+ghost use Rattle.meaning.specs.Paths.{Label};
+ghost use Rattle.meaning.specs.Refusals.{treeRefusal};
+ghost use Rattle.shapes.specs.Classes.{Tabled};
+ghost use Rattle.judged.specs.Answers.{refusalOf};
+
+// "tree 4,096 nodes (36,864 bytes)"
+pub const TREE_BYTES: usize = 36864;
+
+// The refusal of input 3, a tree, under a class table that says what the labels say.
+pub fn read_tree(bytes: &[u8], classes: &[u8; 256]) -> Judged
+    ensures { λ r. ⌜ ((labels : List Label) → Tabled labels (now (classes .entry)) → refusalOf 3 r ≡ treeRefusal labels (now (bytes .entry))) ⌝ }
+{
+    if TREE_BYTES < bytes.len() {
+        return Judged::Refused(TOO_LARGE, 0);
+    }
+    if bytes.len() == 0 {
+        return Judged::Refused(BAD_NODE, 0);
+    }
+    let mut rest = bytes;
+    let mut nodes = 0;
+    while 0 < rest.len() {
+        let number = judge_node(bytes, nodes, rest, classes);
+        if number != ACCEPTED {
+            return Judged::Refused(number, nodes);
+        }
+        let end = word(rest, 0);
+        rest = &rest[end..];
+        nodes += 1;
+    }
+    Judged::Sound
+}

@@ -1,0 +1,200 @@
+//! Holds the product to the reference, which is written from document 01 alone.
+//!
+//! differential cases SEED COUNT            the stream that the program `replay` reads
+//! differential answers SEED COUNT [LINE]   what the reference answers, as `replay` would
+//! differential compare SEED COUNT [LINE]   reads answers on standard input, names the first that
+//!                                          differ, counts, and fails if any does
+//! differential self SEED COUNT [LINE]      what must hold within the reference itself
+//! differential lines                       the wrong lines that LINE can choose
+//!
+//! COUNT random cases follow the fixed ones. reference/stream.rs has the format.
+mod reference;
+
+use reference::cases::cases;
+use reference::derivations::derivation;
+use reference::generate::*;
+use reference::operations::*;
+use reference::random::Random;
+use reference::records::*;
+use reference::stream::*;
+use reference::trees::Tree;
+use std::collections::BTreeMap;
+use std::io::{Read, Write};
+
+const SHOWN: usize = 5;
+
+fn hex(bytes: &[u8]) -> String {
+    let shown: Vec<String> = bytes.iter().take(400).map(|byte| format!("{:02x}", byte)).collect();
+    format!("{}{}", shown.join(" "), if bytes.len() > 400 { " .." } else { "" })
+}
+
+fn show(number: usize, case: &Case, found: Option<&Answer>) {
+    println!("case {} differs: {}, number {}, room {}", number, OPERATIONS[case.operation as usize], case.number, case.room);
+    for (input, bytes) in case.inputs.iter().enumerate() {
+        println!("  input {}: {}", input + 1, hex(bytes));
+    }
+    let wanted = answer(case);
+    println!("  wanted {} {}", wanted.line, hex(&wanted.bytes));
+    match found {
+        Some(found) => println!("  found  {} {}", found.line, hex(&found.bytes)),
+        None => println!("  found  no answer"),
+    }
+}
+
+/// Operation and first words of the answer: what the counts are made of.
+fn outcome(case: &Case, answer: &Answer) -> String {
+    let words: Vec<&str> = answer.line.split(' ').collect();
+    let kept = if words[0] == "refused" || words[0] == "not" { 2 } else { 1 };
+    let empty = if case.operation == BODY && answer.bytes.is_empty() { " (empty)" } else { "" };
+    format!("{} {}{}", OPERATIONS[case.operation as usize], words[..kept.min(words.len())].join(" "), empty)
+}
+
+fn print_counts(counts: &BTreeMap<String, usize>) {
+    let list: Vec<String> = counts.iter().map(|(name, count)| format!("{} {}", name, count)).collect();
+    println!("{}", list.join(" · "));
+}
+
+fn compare(cases: &[Case], stream: &[u8]) -> bool {
+    let mut rest = stream;
+    let mut counts: BTreeMap<String, usize> = BTreeMap::new();
+    let mut differing = 0;
+    for (number, case) in cases.iter().enumerate() {
+        let found = read_answer(rest);
+        match &found {
+            Some((answer, after)) if is_right(case, answer) => {
+                *counts.entry(outcome(case, answer)).or_insert(0) += 1;
+                rest = after;
+            }
+            _ => {
+                differing += 1;
+                if differing <= SHOWN {
+                    show(number, case, found.as_ref().map(|pair| &pair.0));
+                }
+                match found {
+                    Some((_, after)) => rest = after,
+                    None => break,
+                }
+            }
+        }
+    }
+    if !rest.is_empty() {
+        println!("{} bytes stand after the last answer", rest.len());
+        differing += 1;
+    }
+    print_counts(&counts);
+    println!("{} cases, {} differ", cases.len(), differing);
+    differing == 0
+}
+
+/// What 01 promises of the operations together, held on the reference alone.
+fn consistency(seed: u64, count: usize) -> bool {
+    let mut random = Random::new(seed);
+    let mut counts: BTreeMap<String, usize> = BTreeMap::new();
+    let mut failed = 0;
+    for number in 0..count {
+        let asked = asked(&mut random);
+        let found = consistent(&mut random, &asked);
+        if let Err(fault) = &found {
+            failed += 1;
+            println!("question {} of seed {}: {}", number, seed, fault);
+        }
+        *counts.entry(found.unwrap_or_else(|fault| fault)).or_insert(0) += 1;
+    }
+    print_counts(&counts);
+    println!("{} questions, {} fail", count, failed);
+    failed == 0
+}
+
+fn consistent(random: &mut Random, asked: &Asked) -> Result<String, String> {
+    let (profile, question) = (write_profile(&asked.profile), key_record(&asked.question));
+    if rewrite(&profile, ANSWER_BYTES) != Ok(profile.clone()) {
+        return Err("rewriting changes the profile".to_string());
+    }
+    let size = 1 + random.below(14);
+    let nodes = tree(random, &asked.world, size);
+    if read_tree(&write_tree(&nodes), &asked.profile.classes) != Ok(nodes.clone()) {
+        return Err("a written tree is not read".to_string());
+    }
+    let table = Tree::new(&nodes, &asked.profile.classes);
+    for key in asked.profile.keys.iter().take(3).chain(std::iter::once(&asked.question)) {
+        if table.keeps(key) != table.keeps_by_definition(key) {
+            return Err("the fast tree test differs from the definition".to_string());
+        }
+    }
+    let keeps_profile = asked.profile.keys.iter().all(|key| table.keeps(key));
+    let lines = derivation(random, asked, 6);
+    for (number, line) in lines.iter().enumerate() {
+        if !reference::rules::follows(line, &lines[..number], &asked.profile) {
+            break;
+        }
+        if keeps_profile && !table.keeps(&line.key) {
+            return Err(format!("a tree keeps the profile and breaks a line of rule {}", line.rule));
+        }
+    }
+    match decide(&profile, &question, ANSWER_BYTES) {
+        Ok(Decision::Implied(proof)) => {
+            if check_proof(&profile, &question, &proof) != Ok(()) {
+                return Err("the proof is refused".to_string());
+            }
+            if keeps_profile && !table.keeps(&asked.question) {
+                return Err("a tree refutes an implied question".to_string());
+            }
+            Ok("implied".to_string())
+        }
+        Ok(Decision::NotImplied(tree)) => {
+            if check_counterexample(&profile, &question, &tree) != Ok(()) {
+                return Err("the counterexample is refused".to_string());
+            }
+            if reference::decide::proof(&asked.question, &asked.profile).is_some() {
+                return Err("the argument's search differs from the steps".to_string());
+            }
+            Ok("not implied".to_string())
+        }
+        Err(_) => Err("a good question is refused".to_string()),
+    }
+}
+
+fn main() {
+    let arguments: Vec<String> = std::env::args().skip(1).collect();
+    let number = |at: usize| arguments.get(at).and_then(|word| word.parse::<u64>().ok());
+    let command = arguments.first().map_or("", |word| word.as_str());
+    let (seed, count) = match (number(1), number(2)) {
+        (Some(seed), Some(count)) => (seed, count as usize),
+        _ if command == "lines" => (0, 0),
+        _ => {
+            eprintln!("usage: differential cases|answers|compare|self SEED COUNT [LINE], or lines");
+            std::process::exit(2);
+        }
+    };
+    let mut out = Vec::new();
+    let mut is_right = true;
+    let choose = || reference::choose_wrong_line(number(3).unwrap_or(0) as usize);
+    match command {
+        "cases" => cases(seed, count).iter().for_each(|case| write_case(&mut out, case)),
+        "answers" => {
+            let cases = cases(seed, count);
+            choose();
+            cases.iter().for_each(|case| write_answer(&mut out, &answer(case)));
+        }
+        "compare" => {
+            let cases = cases(seed, count);
+            choose();
+            let mut stream = Vec::new();
+            std::io::stdin().read_to_end(&mut stream).unwrap();
+            is_right = compare(&cases, &stream);
+        }
+        "self" => {
+            choose();
+            is_right = consistency(seed, count);
+        }
+        _ => {
+            for (at, text) in reference::WRONG_LINES.iter().enumerate() {
+                println!("{} {}", at + 1, text);
+            }
+        }
+    }
+    std::io::stdout().write_all(&out).unwrap();
+    if !is_right {
+        std::process::exit(1);
+    }
+}

@@ -1,0 +1,302 @@
+//! The cases of a run: fixed ones at each limit, then random ones, whole and damaged.
+use super::damage::{damaged, spoiled};
+use super::derivations::derivation;
+use super::examples::{bench_profile, question, ROWS};
+use super::generate::*;
+use super::paths::*;
+use super::random::Random;
+use super::records::*;
+use super::stream::*;
+
+const ROOM: u32 = ANSWER_BYTES as u32;
+
+fn case(operation: u8, profile: &[u8], second: &[u8], third: &[u8]) -> Case {
+    Case { operation, number: 0, room: ROOM, inputs: [profile.to_vec(), second.to_vec(), third.to_vec()] }
+}
+
+/// The cases of a seed. The true reference makes them, so that a wrong line changes answers alone.
+pub fn cases(seed: u64, count: usize) -> Vec<Case> {
+    assert!(super::wrong(0));
+    let mut random = Random::new(seed);
+    let mut all = Vec::new();
+    examples(&mut all);
+    easily_wrong(&mut all);
+    profile_limits(&mut all);
+    path_limits(&mut all);
+    tree_limits(&mut all);
+    proof_limits(&mut all);
+    for _ in 0..count {
+        let asked = asked(&mut random);
+        let mut next = random_case(&mut random, &asked);
+        let input = random.below(3);
+        match random.below(6) {
+            0 => next.inputs[input] = damaged(&mut random, &next.inputs[input]),
+            1 => next.inputs[input] = spoiled(&mut random, &asked.world, &next.inputs[input]),
+            _ => {}
+        }
+        if random.chance(1, 200) {
+            next.room = random.one_of(&[0, 1, ROOM - 1, ROOM + 1]);
+        }
+        all.push(next);
+    }
+    all
+}
+
+fn examples(all: &mut Vec<Case>) {
+    for (_, keys, asked, _) in ROWS.iter() {
+        let (profile, question) = (bench_profile(keys), question(asked));
+        let decide = case(DECIDE, &profile, &question, &[]);
+        let evidence = answer(&decide).bytes;
+        all.push(decide);
+        all.push(case(CHECK_PROOF, &profile, &question, &evidence));
+        all.push(case(CHECK_TREE, &profile, &question, &evidence));
+        all.push(case(KEEP, &profile, &question, &evidence));
+        all.push(case(LIST, &profile, &[], &evidence));
+        all.push(case(REWRITE, &profile, &[], &[]));
+        for number in 0..10 {
+            all.push(Case { number, ..case(BODY, &profile, &[], &[]) });
+        }
+    }
+}
+
+/// Small cases on which programs that look right go wrong.
+fn easily_wrong(all: &mut Vec<Case>) {
+    let base = labels(3, 0);
+    // Only a label that neither path names tells these two apart.
+    all.push(case(INCLUDE, &base, &[2, 0, 2], &[0, 2, 2]));
+    all.push(case(INCLUDE, &base, &[2, 0, 3], &[0, 2, 3]));
+    // Attributes and other children are two lists: these two elements are equal.
+    let node = |parent: u16, label: u8, value: u16| Node { parent, label, value };
+    let first = [node(NONE, ROOT, 0), node(0, 2, 0), node(1, 3, 5), node(1, TEXT, 7)];
+    let second = [node(0, 2, 0), node(4, TEXT, 7), node(4, 3, 5)];
+    let apart = Key { context: vec![], target: vec![2], paths: vec![vec![]] };
+    all.push(case(KEEP, &base, &key_record(&apart), &write_tree(&[&first[..], &second[..]].concat())));
+    // Text and elements are one list: these two are not.
+    let third = [node(0, 2, 0), node(4, TEXT, 7), node(4, 4, 0)];
+    let fourth = [node(0, 2, 0), node(7, 4, 0), node(7, TEXT, 7)];
+    let mixed = [&first[..], &third[..], &fourth[..]].concat();
+    all.push(case(KEEP, &base, &key_record(&apart), &write_tree(&mixed)));
+    // Both key paths have to agree, in one and the same context.
+    let pairs = [node(NONE, ROOT, 0), node(0, 2, 0), node(1, 3, 1), node(1, TEXT, 1), node(0, 2, 0), node(4, 3, 1), node(4, TEXT, 2)];
+    let both = Key { context: vec![], target: vec![2], paths: vec![vec![TEXT], vec![3]] };
+    all.push(case(KEEP, &base, &key_record(&both), &write_tree(&pairs)));
+    let below = Key { context: vec![2], target: vec![3], paths: vec![vec![]] };
+    all.push(case(KEEP, &base, &key_record(&below), &write_tree(&pairs)));
+    interactions(all, &base);
+}
+
+/// Rule 9 with the second premise's context right, and wrong.
+fn interactions(all: &mut Vec<Case>, base: &[u8]) {
+    let first = Key { context: vec![], target: vec![2], paths: vec![vec![4, 3]] };
+    let new = Key { context: vec![], target: vec![2, 4], paths: vec![vec![3]] };
+    for context in [vec![2], vec![4], vec![], vec![0]] {
+        let second = Key { context, target: vec![4], paths: vec![vec![3]] };
+        let profile = [base.to_vec(), key_record(&first), key_record(&second)].concat();
+        let cite = |number: u16, key: &Key| Line { rule: 0, first: number, second: NONE, key: key.clone() };
+        for (one, two) in [(0, 1), (1, 0), (0, 0), (0, 2), (0, NONE)] {
+            let last = Line { rule: 9, first: one, second: two, key: new.clone() };
+            let proof = write_proof(&[cite(0, &first), cite(1, &second), last]);
+            all.push(case(CHECK_PROOF, &profile, &key_record(&new), &proof));
+        }
+    }
+}
+
+fn labels(count: usize, name: usize) -> Vec<u8> {
+    let record = |number: usize| {
+        let class = if number % 3 == 0 { 2 } else { 1 };
+        let mut text = format!("L{}", number).into_bytes();
+        text.resize(name.max(text.len()), b'-');
+        label_record(&Label { number: number as u8, class, name: text })
+    };
+    (2..2 + count).flat_map(record).collect()
+}
+
+/// Labels 2 and 4 are elements, 3 is an attribute.
+fn key_of(context: usize, target: usize, paths: &[usize]) -> Key {
+    Key { context: vec![2; context], target: vec![4; target], paths: paths.iter().map(|&n| vec![2; n]).collect() }
+}
+
+fn profile_limits(all: &mut Vec<Case>) {
+    let base = labels(3, 0);
+    let mut profiles: Vec<Vec<u8>> = vec![Vec::new(), labels(199, 0), labels(200, 0), labels(3, 32), labels(3, 33)];
+    for (context, target) in [(8, 8), (9, 0), (0, 9), (8, 9)] {
+        profiles.push([base.clone(), key_record(&key_of(context, target, &[0]))].concat());
+    }
+    for paths in [&[8][..], &[9], &[], &[0, 1, 2, 3], &[0, 1, 2, 3, 4], &[0, 1, 2, 3, 9], &[1, 0], &[1, 1]] {
+        profiles.push([base.clone(), key_record(&key_of(1, 1, paths))].concat());
+    }
+    for count in [63, 64, 65] {
+        let keys = key_record(&key_of(1, 1, &[0])).repeat(count);
+        let whole = [base.clone(), keys].concat();
+        for tail in [&[][..], &[0], &[4, 0, 2], &[4, 0, 2, 0], &[0, 0, 2, 0], &[255, 255, 2, 0], &[4, 0, 1, 0], &[4, 0, 4, 0]] {
+            profiles.push([whole.clone(), tail.to_vec()].concat());
+        }
+    }
+    // The longest names and keys come near the size; what is over it is refused whatever it holds.
+    let large = [labels(199, 32), key_record(&key_of(8, 8, &[5, 6, 7, 8])).repeat(64)].concat();
+    for size in [PROFILE_BYTES - 1, PROFILE_BYTES, PROFILE_BYTES + 1] {
+        let mut padded = large.clone();
+        padded.resize(size, 9);
+        profiles.push(padded);
+        profiles.push(vec![9; size]);
+    }
+    profiles.push(large);
+    for profile in &profiles {
+        all.push(case(REWRITE, profile, &[], &[]));
+        all.push(Case { number: 2, ..case(BODY, profile, &[], &[]) });
+        all.push(Case { number: 1_000, ..case(BODY, profile, &[], &[]) });
+        all.push(case(DECIDE, profile, &key_record(&key_of(1, 1, &[0])), &[]));
+        all.push(Case { room: ROOM - 1, ..case(REWRITE, profile, &[], &[]) });
+    }
+    for tail in [&[][..], &[9], &[4, 0, 2, 0], &[4, 0, 9, 0], &[255, 255, 2, 0]] {
+        all.push(case(DECIDE, &base, &[key_record(&key_of(1, 1, &[0])), tail.to_vec()].concat(), &[]));
+        all.push(case(DECIDE, &base, tail, &[]));
+    }
+}
+
+fn path_limits(all: &mut Vec<Case>) {
+    let base = labels(3, 0);
+    let paths: [Vec<u8>; 9] = [
+        vec![],
+        vec![2; 32],
+        vec![2; 33],
+        vec![2, 0].repeat(16),
+        [vec![2, 0].repeat(16), vec![2]].concat(),
+        vec![0, 0],
+        vec![3, 2],
+        vec![99],
+        vec![0],
+    ];
+    for p in &paths {
+        for q in &paths {
+            all.push(case(INCLUDE, &base, p, q));
+        }
+    }
+}
+
+/// A chain, a star of attributes, a comb: each of the given number of nodes.
+fn large_trees(size: usize) -> Vec<Vec<Node>> {
+    let root = Node { parent: NONE, label: ROOT, value: 0 };
+    let with_root = |nodes: Vec<Node>| [vec![root], nodes].concat();
+    let chain = (1..size).map(|number| Node { parent: number as u16 - 1, label: 2, value: 0 }).collect();
+    let star = (1..size).map(|number| Node { parent: 0, label: 3, value: number as u16 }).collect();
+    let comb = (1..size)
+        .map(|number| {
+            let parent = if number % 2 == 1 { number.saturating_sub(2) } else { number - 1 } as u16;
+            let label = if number % 2 == 1 { 2 } else { 3 };
+            Node { parent, label, value: if label == 3 { (number % 7) as u16 } else { 0 } }
+        })
+        .collect();
+    vec![with_root(chain), with_root(star), with_root(comb)]
+}
+
+fn tree_limits(all: &mut Vec<Case>) {
+    let base = labels(3, 0);
+    let everywhere = Key { context: vec![0], target: vec![0], paths: vec![vec![]] };
+    let attributes = Key { context: vec![0], target: vec![2], paths: vec![vec![3]] };
+    for size in [1, 1_023, 1_024, 1_025, 4_095, 4_096, 4_097] {
+        for nodes in large_trees(size) {
+            let bytes = write_tree(&nodes);
+            for key in [&everywhere, &attributes] {
+                all.push(case(KEEP, &base, &key_record(key), &bytes));
+                all.push(case(CHECK_TREE, &base, &key_record(key), &bytes));
+            }
+            for block in [0, 1, 3, 4, 5, u32::MAX] {
+                all.push(Case { number: block, ..case(LIST, &base, &[], &bytes) });
+            }
+        }
+    }
+    all.push(Case { room: ROOM - 1, ..case(LIST, &base, &[], &[]) });
+    all.push(case(KEEP, &base, &key_record(&everywhere), &vec![9; TREE_BYTES]));
+    all.push(case(KEEP, &base, &key_record(&everywhere), &vec![9; TREE_BYTES + 1]));
+}
+
+fn proof_limits(all: &mut Vec<Case>) {
+    let base = labels(3, 0);
+    let asked = key_of(1, 0, &[0]);
+    let line = |rule: u8, first: u16, key: &Key| line_record(&Line { rule, first, second: NONE, key: key.clone() });
+    let put = |all: &mut Vec<Case>, proof: &[u8]| all.push(case(CHECK_PROOF, &base, &key_record(&asked), proof));
+    for count in [0, 1, 255, 256, 257] {
+        let lines: Vec<u8> = (0..count).flat_map(|at| if at == 0 { line(1, NONE, &asked) } else { line(3, 0, &asked) }).collect();
+        for tail in [&[][..], &[4, 0, 4], &[4, 0, 4, 0], &[4, 0, 2, 0], &[0, 0, 4, 0]] {
+            put(all, &[lines.clone(), tail.to_vec()].concat());
+        }
+    }
+    for key in [key_of(32, 0, &[0]), key_of(33, 0, &[0]), key_of(0, 0, &[16]), key_of(0, 0, &[17])] {
+        put(all, &line(1, NONE, &key));
+    }
+    let wide = |count: usize| {
+        let path = |k: usize| (0..16).map(|bit| if (k >> (15 - bit)) & 1 == 1 { 4 } else { 2 }).collect();
+        Key { context: vec![2; 32], target: vec![], paths: (0..count).map(path).collect() }
+    };
+    for count in [64, 65, 255] {
+        put(all, &line(1, NONE, &wide(count)));
+    }
+    let full = line(1, NONE, &wide(64)).repeat(57);
+    for size in [full.len(), PROOF_BYTES - 1, PROOF_BYTES, PROOF_BYTES + 1] {
+        let mut padded = full.clone();
+        padded.resize(size, 0);
+        put(all, &padded);
+    }
+}
+
+fn random_case(random: &mut Random, asked: &Asked) -> Case {
+    let profile = write_profile(&asked.profile);
+    let question = key_record(&asked.question);
+    match random.below(16) {
+        0 => case(REWRITE, &profile, &[], &[]),
+        1 => Case { number: random.below(8) as u32, ..case(BODY, &profile, &[], &[]) },
+        2 | 3 => {
+            let longest = random.one_of(&[3, 8, 32]);
+            let p = path(random, &asked.world, longest, true);
+            let q = if random.chance(1, 2) { wider(random, &p) } else { path(random, &asked.world, longest, true) };
+            case(INCLUDE, &profile, &p, &q)
+        }
+        4 | 5 | 6 => {
+            let size = if random.chance(1, 100) { 200 + random.below(TREE_NODES - 199) } else { 1 + random.below(40) };
+            let nodes = tree(random, &asked.world, size);
+            let operation = if random.chance(2, 3) { KEEP } else { CHECK_TREE };
+            let near = key_record(&key_on(random, &asked.world, &nodes));
+            let question = if random.chance(2, 3) { near } else { question };
+            case(operation, &profile, &question, &write_tree(&nodes))
+        }
+        7 => {
+            let size = if random.chance(1, 20) { 1_000 + random.below(1_200) } else { 1 + random.below(40) };
+            let nodes = tree(random, &asked.world, size);
+            Case { number: random.below(3) as u32, ..case(LIST, &profile, &[], &write_tree(&nodes)) }
+        }
+        8 | 9 => {
+            let length = 1 + random.below(16);
+            let lines = derivation(random, asked, length);
+            let last = lines.last().map(|line| line.key.clone()).filter(|key| is_good(key, &asked.profile.classes));
+            case(CHECK_PROOF, &profile, &key_record(&last.unwrap_or_else(|| asked.question.clone())), &write_proof(&lines))
+        }
+        10 | 11 | 12 => evidence_case(random, asked, &profile, &question),
+        _ => case(DECIDE, &profile, &question, &[]),
+    }
+}
+
+/// The reference's own evidence, sometimes with one value, label or line changed.
+fn evidence_case(random: &mut Random, asked: &Asked, profile: &[u8], question: &[u8]) -> Case {
+    match evidence(asked) {
+        Evidence::Proof(mut lines) => {
+            if random.chance(1, 3) {
+                let at = random.below(lines.len());
+                let other = random.below(lines.len());
+                lines[at].key = lines[other].key.clone();
+            }
+            case(CHECK_PROOF, profile, question, &write_proof(&lines))
+        }
+        Evidence::Tree(mut nodes) => {
+            if random.chance(1, 3) {
+                let at = random.below(nodes.len());
+                let from = random.below(nodes.len());
+                if nodes[at].label == nodes[from].label {
+                    nodes[at].value = nodes[from].value;
+                }
+            }
+            let operation = if random.chance(2, 3) { CHECK_TREE } else { KEEP };
+            case(operation, profile, question, &write_tree(&nodes))
+        }
+    }
+}

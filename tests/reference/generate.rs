@@ -1,0 +1,312 @@
+//! Random profiles, questions, trees and proofs over few labels, so that both verdicts, kept and broken
+//! keys, accepted and refused proofs are all frequent.
+use super::decide::{counterexample, proof, verdict, Pattern, Verdict};
+use super::paths::*;
+use super::random::Random;
+use super::records::*;
+
+/// The labels of one random profile.
+pub struct World {
+    pub labels: Vec<Label>,
+    pub classes: Classes,
+    pub elements: Vec<u8>,
+    /// Attributes and text: what stands only last.
+    pub last_only: Vec<u8>,
+}
+
+const NAMES: [&str; 6] = ["a", "Bee", "c-1", "d_", "element-name-of-32-bytes-ABCDEFG", "z9"];
+
+pub fn world(random: &mut Random) -> World {
+    let sets: [&[u8]; 3] = [&[2, 3, 4, 6, 7], &[2, 57, 100, 199, 200], &[10, 11, 12, 13, 14]];
+    let numbers = random.one_of(&sets);
+    let elements = 1 + random.below(3);
+    let attributes = random.below(3);
+    let mut world = World { labels: Vec::new(), classes: Classes::none(), elements: vec![], last_only: vec![TEXT] };
+    for at in 0..elements + attributes {
+        let number = numbers[at];
+        let class = if at < elements { 1 } else { 2 };
+        if class == 1 {
+            world.elements.push(number);
+            world.classes.declare(number, Class::Element);
+        } else {
+            world.last_only.push(number);
+            world.classes.declare(number, Class::Attribute);
+        }
+        world.labels.push(Label { number, class, name: NAMES[at].as_bytes().to_vec() });
+    }
+    world
+}
+
+/// A path of element labels and, where `any` says so, any-paths, in normal form.
+pub fn inner_path(random: &mut Random, world: &World, longest: usize, any: bool) -> Path {
+    let length = random.below(longest + 1);
+    let mut path: Path = Vec::new();
+    while path.len() < length {
+        if any && path.last() != Some(&ANY_PATH) && random.chance(1, 4) {
+            path.push(ANY_PATH);
+        } else {
+            path.push(random.one_of(&world.elements));
+        }
+    }
+    path
+}
+
+/// The same, perhaps with an attribute or text last.
+pub fn path(random: &mut Random, world: &World, longest: usize, any: bool) -> Path {
+    let mut path = inner_path(random, world, longest, any);
+    if path.len() < longest && random.chance(1, 2) {
+        path.push(random.one_of(&world.last_only));
+    }
+    path
+}
+
+pub fn in_order(paths: &mut Vec<Path>) {
+    paths.sort_by_key(|each| (each.len(), each.clone()));
+    paths.dedup();
+}
+
+/// A key that stands in a profile without refusal.
+pub fn key(random: &mut Random, world: &World) -> Key {
+    let (way, branch, count) = if random.chance(1, 8) { (8, 8, 4) } else { (4, 2, 3) };
+    let mut context = inner_path(random, world, way - 1, true);
+    let mut target = inner_path(random, world, way - 1, true);
+    if target.is_empty() && random.chance(3, 4) {
+        target.push(random.one_of(&world.elements));
+    }
+    if random.chance(1, 8) {
+        // An attribute or text as target, or as context of an empty target.
+        let last = random.one_of(&world.last_only);
+        if random.chance(3, 4) {
+            target.push(last);
+        } else {
+            target.clear();
+            context.push(last);
+        }
+        return Key { context, target, paths: vec![vec![]] };
+    }
+    let number = 1 + random.below(count);
+    let mut paths: Vec<Path> = (0..number).map(|_| path(random, world, branch, false)).collect();
+    in_order(&mut paths);
+    Key { context, target, paths }
+}
+
+pub fn is_good(key: &Key, classes: &Classes) -> bool {
+    let way = join(&key.context, &key.target);
+    let fits = |path: &Path| path.len() <= KEY_SIZES.path && is_normal(path);
+    fits(&key.context)
+        && fits(&key.target)
+        && (1..=KEY_SIZES.count).contains(&key.paths.len())
+        && key.paths.iter().all(|each| fits(each) && is_simple(each) && is_valid(&join(&way, each), classes))
+}
+
+/// A path that holds the given symbols as a word: some parts give way to any-paths.
+pub fn wider(random: &mut Random, symbols: &[u8]) -> Path {
+    let mut path = Vec::new();
+    let mut at = 0;
+    while at < symbols.len() {
+        if random.chance(1, 5) {
+            path.push(ANY_PATH);
+            at += random.below(3);
+        } else {
+            path.push(symbols[at]);
+            at += 1;
+        }
+    }
+    if random.chance(1, 10) {
+        path.push(ANY_PATH);
+    }
+    normal_form(&path)
+}
+
+/// A profile key that lets some node of the question's pattern step upwards, or nearly does.
+fn key_near(random: &mut Random, world: &World, asked: &Key) -> Key {
+    let way = asked.context.len() + asked.target.len();
+    let branch = random.below(asked.paths.len());
+    let from = random.below(way + asked.paths[branch].len() + 1);
+    let to = random.below(from.min(way) + 1);
+    key_between(random, world, asked, branch, from, to)
+}
+
+/// The same with the place below, on the way C, T and one branch, and the place above given.
+fn key_between(random: &mut Random, world: &World, asked: &Key, branch: usize, from: usize, to: usize) -> Key {
+    let way = [asked.context.as_slice(), &asked.target].concat();
+    let line = [way.as_slice(), &asked.paths[branch]].concat();
+    let holds_empty = asked.paths.iter().any(|each| each.is_empty());
+    let mut paths: Vec<Path> = Vec::new();
+    for each in &asked.paths {
+        let whole = [way.as_slice(), each].concat();
+        if whole.len() >= from && whole[..from] == line[..from] {
+            let mut rest = whole[from..].to_vec();
+            if holds_empty && random.chance(1, 3) {
+                let least = way.len().saturating_sub(from);
+                rest.truncate(least + random.below(rest.len() - least.min(rest.len()) + 1));
+            }
+            if paths.is_empty() || random.chance(1, 2) {
+                paths.push(rest);
+            }
+        }
+    }
+    if random.chance(1, 12) {
+        paths.push(path(random, world, 2, false));
+    }
+    in_order(&mut paths);
+    let key = Key { context: wider(random, &line[..to]), target: wider(random, &line[to..from]), paths };
+    if is_good(&key, &world.classes) {
+        key
+    } else {
+        self::key(random, world)
+    }
+}
+
+/// Keys whose steps together lead from t up to q, rung by rung; now and then a rung is missing.
+fn ladder(random: &mut Random, world: &World, asked: &Key) -> Vec<Key> {
+    let (c, n) = (asked.context.len(), asked.context.len() + asked.target.len());
+    let mut keys = Vec::new();
+    let mut upper = c;
+    while upper < n {
+        let branch = random.below(asked.paths.len());
+        let mut from = upper + 1 + random.below(n - upper);
+        if from == n {
+            from += random.below(asked.paths[branch].len() + 1);
+        }
+        let to = if random.chance(1, 2) { upper } else { random.below(upper + 1) };
+        if !random.chance(1, 10) {
+            keys.push(key_between(random, world, asked, branch, from, to));
+        }
+        upper = from;
+    }
+    keys
+}
+
+/// A world, a question and a profile of keys near it.
+pub struct Asked {
+    pub world: World,
+    pub profile: Profile,
+    pub question: Key,
+}
+
+pub fn asked(random: &mut Random) -> Asked {
+    let world = world(random);
+    let question = key(random, &world);
+    let mut keys = if random.chance(1, 2) { ladder(random, &world, &question) } else { Vec::new() };
+    let more = if random.chance(1, 40) { PROFILE_KEYS - keys.len() } else { random.below(4) };
+    for _ in 0..more {
+        let at = random.below(keys.len() + 1);
+        let next = if random.chance(3, 4) { key_near(random, &world, &question) } else { key(random, &world) };
+        keys.insert(at, next);
+    }
+    let profile = Profile { labels: world.labels.clone(), keys, classes: world.classes.clone() };
+    Asked { world, profile, question }
+}
+
+/// A tree of few labels and values, in which whole subtrees are written again.
+pub fn tree(random: &mut Random, world: &World, size: usize) -> Vec<Node> {
+    let mut nodes = vec![Node { parent: NONE, label: ROOT, value: 0 }];
+    let values = 1 + random.below(4);
+    while nodes.len() < size {
+        let parents: Vec<usize> =
+            (0..nodes.len()).filter(|&node| !world.classes.is_last_only(nodes[node].label)).collect();
+        let parent = if random.chance(1, 2) { *parents.last().unwrap() } else { random.one_of(&parents) };
+        if nodes.len() > 1 && random.chance(1, 6) {
+            let copied = 1 + random.below(nodes.len() - 1);
+            copy_below(random, world, &mut nodes, copied, size);
+            continue;
+        }
+        let label = if random.chance(1, 12) {
+            random.one_of(&[FILLER_ELEMENT, FILLER_ATTRIBUTE])
+        } else if random.chance(1, 2) {
+            random.one_of(&world.elements)
+        } else {
+            random.one_of(&world.last_only)
+        };
+        let value = if world.classes.is_last_only(label) { random.below(values) as u16 } else { 0 };
+        nodes.push(Node { parent: parent as u16, label, value });
+    }
+    // Last, elements with something below them, whose copies then stay as they are.
+    for _ in 0..random.below(3) {
+        let inner: Vec<usize> = (1..nodes.len()).filter(|&node| nodes.iter().any(|each| each.parent as usize == node)).collect();
+        if !inner.is_empty() && size < 1_000 {
+            let copied = random.one_of(&inner);
+            let most = nodes.len() + 20;
+            copy_below(random, world, &mut nodes, copied, most);
+        }
+    }
+    nodes
+}
+
+/// Writes a node with what lies below it once more, a value perhaps changed, the attributes perhaps
+/// after everything else: apart from each other, both lists keep their order.
+fn copy_below(random: &mut Random, world: &World, nodes: &mut Vec<Node>, copied: usize, size: usize) {
+    let last = nodes.len();
+    let mut inside = vec![false; last];
+    let mut order = Vec::new();
+    for node in copied..last {
+        let parent = nodes[node].parent;
+        if node == copied || (parent != NONE && inside[parent as usize]) {
+            inside[node] = true;
+            order.push(node);
+        }
+    }
+    if random.chance(1, 2) {
+        order.sort_by_key(|&node| world.classes.of(nodes[node].label) == Some(Class::Attribute));
+    }
+    let mut place = vec![0; last];
+    for node in order {
+        if nodes.len() >= size {
+            return;
+        }
+        let old = nodes[node];
+        let parent = if node == copied { old.parent } else { place[old.parent as usize] };
+        place[node] = nodes.len() as u16;
+        let changed = old.value != 0 && random.chance(1, 10);
+        let value = if changed { old.value - 1 } else { old.value };
+        nodes.push(Node { parent, label: old.label, value });
+    }
+}
+
+/// A key whose targets hold a node of the tree, so that it depends on the tree's values whether it is kept.
+pub fn key_on(random: &mut Random, world: &World, nodes: &[Node]) -> Key {
+    let mut labels: Path = Vec::new();
+    let inner: Vec<usize> = (1..nodes.len()).filter(|&node| nodes.iter().any(|each| each.parent as usize == node)).collect();
+    let mut at = random.below(nodes.len());
+    if !inner.is_empty() && nodes.len() < 1_000 && random.chance(1, 2) {
+        at = random.one_of(&inner);
+    }
+    while nodes[at].parent != NONE {
+        labels.push(nodes[at].label);
+        at = nodes[at].parent as usize;
+    }
+    labels.reverse();
+    // The fillers are in no path: any-paths take them.
+    let symbols: Path = labels.iter().map(|&label| if label < FILLER_ELEMENT { label } else { ANY_PATH }).collect();
+    let cut = random.below(symbols.len() + 1);
+    let mut end = cut + random.below(symbols.len() - cut + 1);
+    while !is_simple(&symbols[end..]) {
+        end += 1;
+    }
+    let mut paths = vec![symbols[end..].to_vec()];
+    if random.chance(1, 4) {
+        paths.push(path(random, world, 2, false));
+    }
+    in_order(&mut paths);
+    let key = Key { context: wider(random, &symbols[..cut.min(end)]), target: wider(random, &symbols[cut.min(end)..end]), paths };
+    if is_good(&key, &world.classes) {
+        key
+    } else {
+        self::key(random, world)
+    }
+}
+
+/// The evidence that the reference itself gives for a question.
+pub enum Evidence {
+    Proof(Vec<Line>),
+    Tree(Vec<Node>),
+}
+
+pub fn evidence(asked: &Asked) -> Evidence {
+    let pattern = Pattern::of(&asked.question);
+    match verdict(&pattern, &asked.profile.keys) {
+        Verdict::Implied => Evidence::Proof(proof(&asked.question, &asked.profile).unwrap_or_default()),
+        Verdict::NotImplied { u } => Evidence::Tree(counterexample(&pattern, u, &asked.profile)),
+    }
+}

@@ -1,0 +1,55 @@
+//! The second implementation of document 01, written from the document alone (with the readings of
+//! docs/DECISIONS.md) and from no code or definition of the product, so that a misunderstanding has
+//! to be made twice to stay unseen. Plain Rust, the standard library only.
+//!
+//! paths: words, joins, validity, inclusion · records: the inputs, checked from the front ·
+//! trees: value equality, keys kept · rules: proof lines · decide: pattern, verdict, evidence ·
+//! listing: blocks of lines · operations: the public operations with all refusals in 01's order ·
+//! generate: random and damaged inputs.
+#![allow(dead_code)]
+
+pub mod cases;
+pub mod damage;
+pub mod decide;
+pub mod derivations;
+pub mod encode;
+pub mod examples;
+pub mod generate;
+pub mod listing;
+pub mod operations;
+pub mod paths;
+pub mod random;
+pub mod records;
+pub mod rules;
+pub mod stream;
+pub mod trees;
+
+use std::sync::atomic::{AtomicUsize, Ordering};
+
+/// A comparison that cannot fail shows nothing. So the reference has lines that can be made wrong,
+/// one at a time, by an argument of the program; 0 is the true reference.
+static WRONG: AtomicUsize = AtomicUsize::new(0);
+
+/// What each wrong line does, by its number less one.
+pub const WRONG_LINES: [&str; 12] = [
+    "membership: an any-path consumes at least one label",
+    "inclusion: 201 and 202 are left out of the labels",
+    "value equality: attributes and other children are one list",
+    "tree test: two targets need only one key path in common",
+    "rule 8 wants two key paths in the premise",
+    "rule 9 does not look at the second premise's context",
+    "pattern: with the empty path, t alone is marked and not what lies below",
+    "u is the highest node that leads to q, not the lowest",
+    "second copy: the filler attribute of a marked node keeps its own number",
+    "records: 5 is given before 4",
+    "listing: a block has 1,023 lines",
+    "counterexample check: the first profile key alone is tried",
+];
+
+pub fn choose_wrong_line(number: usize) {
+    WRONG.store(number, Ordering::Relaxed);
+}
+
+pub fn wrong(number: usize) -> bool {
+    WRONG.load(Ordering::Relaxed) == number
+}

@@ -1,0 +1,105 @@
+//! The public operations on bytes, with every refusal in 01's order: 14, then profile, question,
+//! tree or proof; then 10, or 12 before 13; 11 last.
+use super::decide::{counterexample, proof, verdict, Pattern, Verdict};
+use super::listing::block;
+use super::paths::is_included;
+use super::records::*;
+use super::rules::follows;
+use super::trees::Tree;
+use super::wrong;
+
+pub const COUNTEREXAMPLE_NODES: usize = 256;
+
+/// What the decider answers, with the bytes that it writes to the front of the answer buffer.
+#[derive(Clone, PartialEq, Eq, Debug)]
+pub enum Decision {
+    Implied(Vec<u8>),
+    NotImplied(Vec<u8>),
+}
+
+fn check_answer(size: usize) -> Result<(), Refusal> {
+    if size < ANSWER_BYTES {
+        return refuse(14, ANSWER, 0);
+    }
+    Ok(())
+}
+
+pub fn rewrite(profile: &[u8], answer: usize) -> Result<Vec<u8>, Refusal> {
+    check_answer(answer)?;
+    Ok(write_profile(&read_profile(profile)?))
+}
+
+/// "If that refuses, or there is no record n, it answers the empty part alone."
+pub fn body(profile: &[u8], n: usize) -> &[u8] {
+    match read_profile(profile) {
+        Ok(_) => body_of_record(profile, n).unwrap_or(&[]),
+        Err(_) => &[],
+    }
+}
+
+pub fn include(profile: &[u8], p: &[u8], q: &[u8]) -> Result<bool, Refusal> {
+    let profile = read_profile(profile)?;
+    read_bare_path(p, QUESTION, &profile.classes)?;
+    read_bare_path(q, TREE_OR_PROOF, &profile.classes)?;
+    Ok(is_included(p, q, &profile.classes))
+}
+
+pub fn keep(profile: &[u8], question: &[u8], tree: &[u8]) -> Result<bool, Refusal> {
+    let profile = read_profile(profile)?;
+    let key = read_question(question, &profile.classes)?;
+    let nodes = read_tree(tree, &profile.classes)?;
+    Ok(Tree::new(&nodes, &profile.classes).keeps(&key))
+}
+
+pub fn check_proof(profile: &[u8], question: &[u8], proof: &[u8]) -> Result<(), Refusal> {
+    let profile = read_profile(profile)?;
+    let key = read_question(question, &profile.classes)?;
+    let lines = read_proof(proof, &profile.classes, &|line, before| follows(line, before, &profile))?;
+    match lines.last() {
+        None => refuse(10, TREE_OR_PROOF, 0),
+        Some(last) if last.key != key => refuse(10, TREE_OR_PROOF, lines.len() - 1),
+        Some(_) => Ok(()),
+    }
+}
+
+pub fn check_counterexample(profile: &[u8], question: &[u8], tree: &[u8]) -> Result<(), Refusal> {
+    let profile = read_profile(profile)?;
+    let key = read_question(question, &profile.classes)?;
+    let nodes = read_tree(tree, &profile.classes)?;
+    let tree = Tree::new(&nodes, &profile.classes);
+    let tried = if wrong(12) { 1.min(profile.keys.len()) } else { profile.keys.len() };
+    if let Some(broken) = (0..tried).find(|&number| !tree.keeps(&profile.keys[number])) {
+        return refuse(12, PROFILE, broken);
+    }
+    if tree.keeps(&key) {
+        return refuse(13, TREE_OR_PROOF, 0);
+    }
+    Ok(())
+}
+
+pub fn decide(profile: &[u8], question: &[u8], answer: usize) -> Result<Decision, Refusal> {
+    check_answer(answer)?;
+    let profile = read_profile(profile)?;
+    let key = read_question(question, &profile.classes)?;
+    let pattern = Pattern::of(&key);
+    match verdict(&pattern, &profile.keys) {
+        Verdict::Implied => {
+            let lines = proof(&key, &profile).expect("the argument's search agrees with the steps");
+            Ok(Decision::Implied(write_proof(&lines)))
+        }
+        Verdict::NotImplied { u } => {
+            let nodes = counterexample(&pattern, u, &profile);
+            if nodes.len() > COUNTEREXAMPLE_NODES {
+                return refuse(11, QUESTION, 0);
+            }
+            Ok(Decision::NotImplied(write_tree(&nodes)))
+        }
+    }
+}
+
+pub fn list(profile: &[u8], tree: &[u8], k: u64, answer: usize) -> Result<Vec<u8>, Refusal> {
+    check_answer(answer)?;
+    let profile = read_profile(profile)?;
+    let nodes = read_tree(tree, &profile.classes)?;
+    Ok(block(&nodes, &profile.classes, k))
+}

@@ -1,0 +1,115 @@
+//! Cases of the public operations as a stream of frames, and their answers as a stream of lines.
+//!
+//! A frame: operation (1 byte), then, 4 bytes each and little-endian, number (record of a body, block of
+//! a listing), room (size of the answer buffer that is lent), three lengths; then the three inputs:
+//! profile; question or first path; tree, proof or second path.
+//!
+//! An answer: a line, the same that the programs print (`refused N I R`, `implied BYTES`, `kept`, ..),
+//! with `body BYTES` and `listed BYTES` besides; where it ends in BYTES, so many raw bytes follow.
+use super::operations::*;
+use super::records::Refusal;
+
+pub const REWRITE: u8 = 1;
+pub const BODY: u8 = 2;
+pub const INCLUDE: u8 = 3;
+pub const KEEP: u8 = 4;
+pub const CHECK_PROOF: u8 = 5;
+pub const CHECK_TREE: u8 = 6;
+pub const DECIDE: u8 = 7;
+pub const LIST: u8 = 8;
+pub const OPERATIONS: [&str; 9] = ["", "rewrite", "body", "include", "keep", "proof", "tree", "decide", "list"];
+
+#[derive(Clone)]
+pub struct Case {
+    pub operation: u8,
+    pub number: u32,
+    pub room: u32,
+    pub inputs: [Vec<u8>; 3],
+}
+
+#[derive(Clone, PartialEq, Eq, Debug)]
+pub struct Answer {
+    pub line: String,
+    pub bytes: Vec<u8>,
+}
+
+pub fn write_case(out: &mut Vec<u8>, case: &Case) {
+    out.push(case.operation);
+    out.extend_from_slice(&case.number.to_le_bytes());
+    out.extend_from_slice(&case.room.to_le_bytes());
+    for input in &case.inputs {
+        out.extend_from_slice(&(input.len() as u32).to_le_bytes());
+    }
+    for input in &case.inputs {
+        out.extend_from_slice(input);
+    }
+}
+
+pub fn write_answer(out: &mut Vec<u8>, answer: &Answer) {
+    out.extend_from_slice(answer.line.as_bytes());
+    out.push(b'\n');
+    out.extend_from_slice(&answer.bytes);
+}
+
+/// The next answer of a stream, and what follows; none where it breaks off.
+pub fn read_answer(stream: &[u8]) -> Option<(Answer, &[u8])> {
+    let end = stream.iter().position(|&byte| byte == b'\n')?;
+    let line = String::from_utf8_lossy(&stream[..end]).to_string();
+    let rest = &stream[end + 1..];
+    let has_bytes = ["rewritten ", "body ", "listed ", "implied ", "not implied "];
+    let mut length = 0;
+    if has_bytes.iter().any(|word| line.starts_with(word)) {
+        length = line.rsplit(' ').next()?.parse::<usize>().ok()?;
+    }
+    if length > rest.len() {
+        return None;
+    }
+    let (bytes, rest) = rest.split_at(length);
+    Some((Answer { line, bytes: bytes.to_vec() }, rest))
+}
+
+fn word(line: &str) -> Answer {
+    Answer { line: line.to_string(), bytes: Vec::new() }
+}
+
+fn with_bytes(word: &str, bytes: Vec<u8>) -> Answer {
+    Answer { line: format!("{} {}", word, bytes.len()), bytes }
+}
+
+fn answered(outcome: Result<Answer, Refusal>) -> Answer {
+    match outcome {
+        Ok(answer) => answer,
+        Err(refusal) => word(&format!("refused {} {} {}", refusal.number, refusal.input, refusal.record)),
+    }
+}
+
+/// What the reference answers.
+pub fn answer(case: &Case) -> Answer {
+    let [a, b, c] = &case.inputs;
+    let (number, room) = (case.number, case.room as usize);
+    let either = |found: bool, yes: &str, no: &str| word(if found { yes } else { no });
+    answered(match case.operation {
+        REWRITE => rewrite(a, room).map(|bytes| with_bytes("rewritten", bytes)),
+        BODY => Ok(with_bytes("body", body(a, number as usize).to_vec())),
+        INCLUDE => include(a, b, c).map(|found| either(found, "included", "not included")),
+        KEEP => keep(a, b, c).map(|found| either(found, "kept", "broken")),
+        CHECK_PROOF => check_proof(a, b, c).map(|_| word("accepted")),
+        CHECK_TREE => check_counterexample(a, b, c).map(|_| word("accepted")),
+        LIST => list(a, c, number as u64, room).map(|bytes| with_bytes("listed", bytes)),
+        _ => decide(a, b, room).map(|decision| match decision {
+            Decision::Implied(proof) => with_bytes("implied", proof),
+            Decision::NotImplied(tree) => with_bytes("not implied", tree),
+        }),
+    })
+}
+
+/// Whether an answer is right. Which accepted proof is written is open (01): of `implied` the proof is
+/// checked, of everything else each byte is compared.
+pub fn is_right(case: &Case, found: &Answer) -> bool {
+    let wanted = answer(case);
+    if case.operation == DECIDE && wanted.line.starts_with("implied ") && found.line.starts_with("implied ") {
+        let [profile, question, _] = &case.inputs;
+        return check_proof(profile, question, &found.bytes) == Ok(());
+    }
+    *found == wanted
+}
