@@ -1,164 +1,258 @@
--- A class is led by its smallest node: one law for each return.
-use Prim.Native.Nat.{ℕ, zero, suc, _+_, _-_, _<_, _≤_}
-use mathlib.Core.Path.{_≡_, refl, sym, _∙_, ap, ap₂, subst}
+-- The classes, found from the back: a node is of the class of a later node that is equal to it, or leads a class of its own. One law for
+-- each return.
+use Prim.Native.Nat.{ℕ, zero, suc, _+_, _-_, _%_, _<_, _≤_}
+use mathlib.Core.Path.{_≡_, refl, sym, _∙_, ap, subst}
 use mathlib.Core.Bool.{Bool, true, false, false≢true, true≢false}
 use mathlib.Core.List.{List, [], _∷_}
 use native.Mathlib.Omega.{arith}
-use native.Mathlib.Decide.{ℕ-discrete, decLt}
+use native.Mathlib.Decide.{ℕ-discrete}
+use native.Mathlib.Nat.{mod-lt}
 use lib.ListN.{length, getD, set, length-set}
 use lib.Seq.{getD-set-same, getD-set-other}
 use Rattle.meaning.specs.Paths.{Class}
-use Rattle.meaning.specs.Trees.{Table, Equal}
+use Rattle.meaning.specs.Trees.{Table, IsTree, Equal}
 use Rattle.theory_trees.specs.Below.{ParentsSmaller}
-use Rattle.theory_trees.specs.Laws.{equal-symmetric, equal-transitive, equal-reflexive}
+use Rattle.theory_trees.specs.Laws.{equal-symmetric, equal-transitive, equal-reflexive, equal-label}
+use Rattle.tree_nodes.specs.Seek.{left, left-falls}
 use Rattle.tree_nodes.specs.Decides.{Decides}
+use Rattle.tree_nodes.specs.Links.{LeastChild, Nexts}
 use Rattle.tree_equal.specs.Classed.{Classed}
+use Rattle.tree_classes.specs.Chain.{byClass, next-in}
 
 -- Value-equal nodes have equal weights
 pub record Weighed (κ : ℕ → Class) (t : Table) (weight : List ℕ) : Type 0 where
   pub equal : (x y : ℕ) → x < t .size → y < t .size → Equal κ t x y → getD weight x 0 ≡ getD weight y 0
 
--- y leads its class, and x is equal to it
-pub record Leader (κ : ℕ → Class) (t : Table) (class : List ℕ) (y x : ℕ) : Type 0 where
-  pub self : getD class y 0 ≡ y
-  pub equal : Equal κ t y x
+-- The weights of the first nodes, sorted into as many buckets as there are nodes
+pub record Sorted (weight bucket : List ℕ) (count n : ℕ) : Type 0 where
+  pub long : length bucket ≡ 4096
+  pub each : (x : ℕ) → x < n → getD bucket x 0 ≡ getD weight x 0 % count
 
-module _ (κ : ℕ → Class) (t : Table) (class : List ℕ) (y x : ℕ) where
-  pub follows-other : (c : ℕ) → c ≡ getD class y 0 → (c ≡ y → ⊥) → Decides (Leader κ t class y x) false
-  follows-other c e n = record { yes = λ h. absurd (false≢true h); no = λ h l. n (e ∙ l .self) }
+pub sorted-more : (weight bucket : List ℕ) (count n b : ℕ) → n < 4096 → Sorted weight bucket count n → b ≡ getD weight n 0 % count
+    → Sorted weight (set bucket n b) count (n + 1)
+sorted-more weight bucket count n b h s e =
+    record { long = length-set bucket n b ∙ s .long; each = λ x g. go x g (ℕ-discrete x n) }
+  where
+    go : (x : ℕ) → x < n + 1 → Dec (x ≡ n) → getD (set bucket n b) x 0 ≡ getD weight x 0 % count
+    go x g (yes z) =
+        ap (λ (k : ℕ). getD (set bucket n b) k 0) z ∙ getD-set-same bucket n b 0 (let l = s .long in omega arith) ∙ e
+        ∙ sym (ap (λ (k : ℕ). getD weight k 0 % count) z)
+    go x g (no m) = getD-set-other bucket n x b 0 m ∙ s .each x (omega arith)
 
-  pub weighs-other : (weight : List ℕ) → Weighed κ t weight → x < t .size → y < t .size → (getD weight y 0 ≡ getD weight x 0 → ⊥)
-      → Decides (Leader κ t class y x) false
-  weighs-other weight w ix iy n = record { yes = λ h. absurd (false≢true h); no = λ h l. n (w .equal y x iy ix (l .equal)) }
+module _ (κ : ℕ → Class) (t : Table) (x y : ℕ) where
+  pub weighs-other : (weight : List ℕ) → Weighed κ t weight → x < t .size → y < t .size → (getD weight x 0 ≡ getD weight y 0 → ⊥)
+      → Decides (Equal κ t x y) false
+  weighs-other weight w ix iy n = record { yes = λ h. absurd (false≢true h); no = λ h q. n (w .equal x y ix iy q) }
 
-  pub leads-so : (c : ℕ) (r : Bool) → c ≡ getD class y 0 → c ≡ y → Decides (Equal κ t y x) r → Decides (Leader κ t class y x) r
-  leads-so c r e f d = record { yes = λ h. record { self = sym e ∙ f; equal = d .yes h }; no = λ h l. d .no h (l .equal) }
-
--- The class of x among the nodes before it, or x itself
+-- The class of x, where the later nodes have theirs
 pub record ClassIs (κ : ℕ → Class) (t : Table) (class : List ℕ) (x r : ℕ) : Type 0 where
-  pub within : r ≤ x
-  pub leads : r < x → Leader κ t class r x
-  pub alone : r ≡ x → (y : ℕ) → y < x → Leader κ t class y x → ⊥
+  pub within : x ≤ r
+  pub inside : r < t .size
+  pub equal : Equal κ t r x
+  pub self : x < r → getD class r 0 ≡ r
+  pub one : (k : ℕ) → x < k → k < t .size → Equal κ t k x → getD class k 0 ≡ r
 
--- no leader of x up to y
-pub record Unled (κ : ℕ → Class) (t : Table) (class : List ℕ) (x y : ℕ) : Type 0 where
-  pub before : (k : ℕ) → k < y → Leader κ t class k x → ⊥
-
-module _ (κ : ℕ → Class) (t : Table) (class : List ℕ) (x : ℕ) where
-  pub unled-none : Unled κ t class x 0
-  unled-none = record { before = λ k h. absurd (omega arith) }
-
-  pub unled-more : (y : ℕ) (r : Bool) → Unled κ t class x y → Decides (Leader κ t class y x) r → r ≡ false → Unled κ t class x (y + 1)
-  unled-more y r u d e = record { before = λ k h l. go k h l (ℕ-discrete k y) }
-    where
-      go : (k : ℕ) → k < y + 1 → Leader κ t class k x → Dec (k ≡ y) → ⊥
-      go k h l (yes z) = d .no e (subst (λ (n : ℕ). Leader κ t class n x) z l)
-      go k h l (no n) = u .before k (omega arith) l
-
-  pub class-led : (y : ℕ) (r : Bool) → y < x → Decides (Leader κ t class y x) r → r ≡ true → ClassIs κ t class x y
-  class-led y r h d e = record { within = omega arith; leads = λ g. d .yes e; alone = λ g. absurd (omega arith) }
-
-  pub class-own : (y : ℕ) → x ≤ y → Unled κ t class x y → ClassIs κ t class x x
-  class-own y h u = record { within = omega arith; leads = λ g. absurd (omega arith); alone = λ g k l. u .before k (omega arith) }
-
--- The classes of the first nodes
-pub record ClassedTo (κ : ℕ → Class) (t : Table) (class : List ℕ) (n : ℕ) : Type 0 where
+-- The classes of the nodes from number i on
+pub record ClassedFrom (κ : ℕ → Class) (t : Table) (class : List ℕ) (i : ℕ) : Type 0 where
   pub long : length class ≡ 4096
-  pub below : (u : ℕ) → u < n → getD class u 0 ≤ u
-  pub self : (u : ℕ) → u < n → getD class (getD class u 0) 0 ≡ getD class u 0
-  pub equal : (u : ℕ) → u < n → Equal κ t (getD class u 0) u
-  pub one : (u v : ℕ) → u < n → v < n → Equal κ t u v → getD class u 0 ≡ getD class v 0
+  pub root : getD class 0 0 ≡ 0
+  pub above : (u : ℕ) → i ≤ u → u < t .size → u ≤ getD class u 0
+  pub inside : (u : ℕ) → i ≤ u → u < t .size → getD class u 0 < t .size
+  pub self : (u : ℕ) → i ≤ u → u < t .size → getD class (getD class u 0) 0 ≡ getD class u 0
+  pub equal : (u : ℕ) → i ≤ u → u < t .size → Equal κ t (getD class u 0) u
+  pub one : (u v : ℕ) → i ≤ u → u < t .size → i ≤ v → v < t .size → Equal κ t u v → getD class u 0 ≡ getD class v 0
 
-pub classed-none : (κ : ℕ → Class) (t : Table) (class : List ℕ) → length class ≡ 4096 → ClassedTo κ t class 0
-classed-none κ t class l =
+pub classed-none : (κ : ℕ → Class) (t : Table) (class : List ℕ) (n : ℕ) → n ≡ t .size → length class ≡ 4096 → ((i : ℕ) → getD class i 0 ≡ 0)
+    → ClassedFrom κ t class n
+classed-none κ t class n e l zeros =
     record {
       long = l;
-      below = λ u h. absurd (omega arith);
-      self = λ u h. absurd (omega arith);
-      equal = λ u h. absurd (omega arith);
-      one = λ u v h. absurd (omega arith);
+      root = zeros 0;
+      above = λ u h g. absurd (omega arith);
+      inside = λ u h g. absurd (omega arith);
+      self = λ u h g. absurd (omega arith);
+      equal = λ u h g. absurd (omega arith);
+      one = λ u v h g. absurd (omega arith);
     }
 
-module _ (κ : ℕ → Class) (t : Table) (small : ParentsSmaller t) (class : List ℕ) (x r : ℕ) (room : x < 4096) (c : ClassedTo κ t class x)
-    (is : ClassIs κ t class x r) where
-  now-there : getD (set class x r) x 0 ≡ r
-  now-there = getD-set-same class x r 0 (let l = c .long in omega arith)
+-- At link y of the bucket of x: a later node equal to x is y or a later one
+pub record Seeking (κ : ℕ → Class) (t : Table) (bucket : List ℕ) (x y : ℕ) : Type 0 where
+  pub inside : y < t .size
+  pub member : 0 < y → (x < y) × (getD bucket y 0 ≡ getD bucket x 0)
+  pub later : (k : ℕ) → x < k → k < t .size → Equal κ t x k → (0 < y) × (y ≤ k)
 
-  still : (u : ℕ) → u < x → getD (set class x r) u 0 ≡ getD class u 0
-  still u h = getD-set-other class x u r 0 (λ e. omega arith)
+module _ (κ : ℕ → Class) (t : Table) (weight bucket chained : List ℕ) (w : Weighed κ t weight) (sorted : Sorted weight bucket (t .size) (t .size))
+    (links : Nexts (byClass (t .size) bucket) chained) where
+  same-bucket : (x k : ℕ) → x < t .size → k < t .size → Equal κ t x k → getD bucket k 0 ≡ getD bucket x 0
+  same-bucket x k h g q =
+      sorted .each k g ∙ ap (λ (n : ℕ). n % t .size) (sym (w .equal x k h g q)) ∙ sym (sorted .each x h)
 
-  -- r leads its class in the longer table too
-  own-class : getD (set class x r) r 0 ≡ r
-  own-class = go (ℕ-discrete r x)
-    where
-      go : Dec (r ≡ x) → getD (set class x r) r 0 ≡ r
-      go (yes e) = ap (λ (n : ℕ). getD (set class x r) n 0) e ∙ now-there
-      go (no n) = let w = is .within in still r (omega arith) ∙ is .leads (omega arith) .self
-
-  equal-now : Equal κ t r x
-  equal-now = go (ℕ-discrete r x)
-    where
-      go : Dec (r ≡ x) → Equal κ t r x
-      go (yes e) = subst (λ (n : ℕ). Equal κ t n x) (sym e) (equal-reflexive small x)
-      go (no n) = let w = is .within in is .leads (omega arith) .equal
-
-  -- an earlier node equal to x is of its class
-  class-met : (u : ℕ) → u < x → Equal κ t u x → getD class u 0 ≡ r
-  class-met u h q = go (ℕ-discrete r x)
-    where
-      go : Dec (r ≡ x) → getD class u 0 ≡ r
-      go (yes e) =
-          let b = c .below u h in
-          absurd (is .alone e (getD class u 0) (omega arith) (record { self = c .self u h; equal = equal-transitive (c .equal u h) q }))
-      go (no n) =
-          let w = is .within in
-          let l = is .leads (omega arith) in
-          c .one u r h (omega arith) (equal-transitive q (equal-symmetric (l .equal))) ∙ l .self
-
-  pub classed-more : ClassedTo κ t (set class x r) (x + 1)
-  classed-more =
+  pub seeking-start : (x y : ℕ) → 0 < x → x < t .size → y ≡ getD chained x 0 → Seeking κ t bucket x y
+  seeking-start x y p h e =
+      let l = next-in (t .size) bucket chained links x y p h e in
       record {
-        long = length-set class x r ∙ c .long;
-        below = λ u h. low u h (ℕ-discrete u x);
-        self = λ u h. led u h (ℕ-discrete u x);
-        equal = λ u h. alike u h (ℕ-discrete u x);
-        one = λ u v h g q. single u v h g q (ℕ-discrete u x) (ℕ-discrete v x);
+        inside = l .inside;
+        member = l .member;
+        later = λ k g i q. l .least k g i (same-bucket x k h i q);
+      }
+
+  pub seeking-next : (x y n : ℕ) (r : Bool) → x < t .size → 0 < y → Seeking κ t bucket x y → Decides (Equal κ t x y) r → r ≡ false
+      → n ≡ getD chained y 0 → Seeking κ t bucket x n
+  seeking-next x y n r h p s d z e =
+      let m = s .member p in
+      let l = next-in (t .size) bucket chained links y n p (s .inside) e in
+      record {
+        inside = l .inside;
+        member = λ q. let k = l .member q in (let a = m .0 in let b = k .0 in omega arith, k .1 ∙ m .1);
+        later = λ k g i q. l .least k (after k g i q (ℕ-discrete k y)) i (same-bucket x k h i q ∙ sym (m .1));
       }
     where
-      low : (u : ℕ) → u < x + 1 → Dec (u ≡ x) → getD (set class x r) u 0 ≤ u
-      low u h (yes e) = let w = is .within in let n = now-there in let f = ap (λ (k : ℕ). getD (set class x r) k 0) e in omega arith
-      low u h (no n) = let s = still u (omega arith) in let b = c .below u (omega arith) in omega arith
+      after : (k : ℕ) → x < k → k < t .size → Equal κ t x k → Dec (k ≡ y) → y < k
+      after k g i q (yes c) = absurd (d .no z (subst (Equal κ t x) c q))
+      after k g i q (no c) = let b = s .later k g i q .1 in omega arith
 
-      led : (u : ℕ) → u < x + 1 → Dec (u ≡ x) → getD (set class x r) (getD (set class x r) u 0) 0 ≡ getD (set class x r) u 0
-      led u h (yes e) =
-          let f : getD (set class x r) u 0 ≡ r = ap (λ (k : ℕ). getD (set class x r) k 0) e ∙ now-there in
-          ap (λ (k : ℕ). getD (set class x r) k 0) f ∙ own-class ∙ sym f
-      led u h (no n) =
-          let g : u < x = omega arith in
-          let s = still u g in
-          let b = c .below u g in
-          ap (λ (k : ℕ). getD (set class x r) k 0) s ∙ still (getD class u 0) (omega arith) ∙ c .self u g ∙ sym s
+module _ (κ : ℕ → Class) (t : Table) (small : ParentsSmaller t) (class bucket : List ℕ) (x : ℕ) (h : x < t .size) (c : ClassedFrom κ t class (x + 1)) where
+  pub class-met : (y k : ℕ) (r : Bool) → 0 < y → Seeking κ t bucket x y → Decides (Equal κ t x y) r → r ≡ true → k ≡ getD class y 0
+      → ClassIs κ t class x k
+  class-met y k r p s d z e =
+      let q = d .yes z in
+      let m = s .member p .0 in
+      let i = s .inside in
+      let a = c .above y (omega arith) i in
+      record {
+        within = omega arith;
+        inside = let b = c .inside y (omega arith) i in omega arith;
+        equal = equal-transitive (subst (λ (n : ℕ). Equal κ t n y) (sym e) (c .equal y (omega arith) i)) (equal-symmetric q);
+        self = λ g. ap (λ (n : ℕ). getD class n 0) e ∙ c .self y (omega arith) i ∙ sym e;
+        one = λ n g j w. c .one n y (omega arith) j (omega arith) i (equal-transitive w q) ∙ sym e;
+      }
 
-      alike : (u : ℕ) → u < x + 1 → Dec (u ≡ x) → Equal κ t (getD (set class x r) u 0) u
-      alike u h (yes e) =
-          subst (λ (k : ℕ). Equal κ t (getD (set class x r) k 0) k) (sym e) (subst (λ (k : ℕ). Equal κ t k x) (sym now-there) equal-now)
-      alike u h (no n) = subst (λ (k : ℕ). Equal κ t k u) (sym (still u (omega arith))) (c .equal u (omega arith))
+  pub class-own : (y : ℕ) → y ≡ 0 → Seeking κ t bucket x y → ClassIs κ t class x x
+  class-own y z s =
+      record {
+        within = omega arith;
+        inside = h;
+        equal = equal-reflexive small x;
+        self = λ g. absurd (omega arith);
+        one = λ k g i q. absurd (let b = s .later k g i (equal-symmetric q) .0 in omega arith);
+      }
 
-      single : (u v : ℕ) → u < x + 1 → v < x + 1 → Equal κ t u v → Dec (u ≡ x) → Dec (v ≡ x)
-          → getD (set class x r) u 0 ≡ getD (set class x r) v 0
-      single u v h g q (yes e) (yes f) = ap (λ (k : ℕ). getD (set class x r) k 0) (e ∙ sym f)
-      single u v h g q (yes e) (no m) =
-          ap (λ (k : ℕ). getD (set class x r) k 0) e ∙ now-there
-          ∙ sym (still v (omega arith) ∙ class-met v (omega arith) (equal-symmetric (subst (λ (k : ℕ). Equal κ t k v) e q)))
-      single u v h g q (no n) (yes f) =
-          still u (omega arith) ∙ class-met u (omega arith) (subst (Equal κ t u) f q) ∙ sym (ap (λ (k : ℕ). getD (set class x r) k 0) f ∙ now-there)
-      single u v h g q (no n) (no m) = still u (omega arith) ∙ c .one u v (omega arith) (omega arith) q ∙ sym (still v (omega arith))
+module _ (κ : ℕ → Class) (t : Table) (class : List ℕ) (j r : ℕ) (low : 1 < j) (high : j ≤ t .size) (few : t .size ≤ 4096)
+    (c : ClassedFrom κ t class j) (is : ClassIs κ t class (j - 1) r) where
+  now-there : getD (set class (j - 1) r) (j - 1) 0 ≡ r
+  now-there = getD-set-same class (j - 1) r 0 (let l = c .long in omega arith)
 
-pub classed-all : (κ : ℕ → Class) (t : Table) (class : List ℕ) (n : ℕ) → t .size ≤ n → ClassedTo κ t class n → Classed κ t class
-classed-all κ t class n h c =
-    record {
-      inside = λ x i. let b = c .below x (omega arith) in omega arith;
-      same = λ x y i j e. equal-transitive (equal-symmetric (c .equal x (omega arith)))
-          (subst (λ (k : ℕ). Equal κ t k y) (sym e) (c .equal y (omega arith)));
-      equal = λ x y i j q. c .one x y (omega arith) (omega arith) q;
-    }
+  still : (u : ℕ) → (u ≡ j - 1 → ⊥) → getD (set class (j - 1) r) u 0 ≡ getD class u 0
+  still u h = getD-set-other class (j - 1) u r 0 h
+
+  there : (u : ℕ) → u ≡ j - 1 → getD (set class (j - 1) r) u 0 ≡ r
+  there u e = ap (λ (k : ℕ). getD (set class (j - 1) r) k 0) e ∙ now-there
+
+  own-class : getD (set class (j - 1) r) r 0 ≡ r
+  own-class = go (ℕ-discrete r (j - 1))
+    where
+      go : Dec (r ≡ j - 1) → getD (set class (j - 1) r) r 0 ≡ r
+      go (yes e) = there r e
+      go (no n) = still r n ∙ is .self (let w = is .within in omega arith)
+
+  pub classed-step : ClassedFrom κ t (set class (j - 1) r) (j - 1)
+  classed-step =
+      record {
+        long = length-set class (j - 1) r ∙ c .long;
+        root = still 0 (λ e. omega arith) ∙ c .root;
+        above = λ u h g. up u h g (ℕ-discrete u (j - 1));
+        inside = λ u h g. within u h g (ℕ-discrete u (j - 1));
+        self = λ u h g. led u h g (ℕ-discrete u (j - 1));
+        equal = λ u h g. alike u h g (ℕ-discrete u (j - 1));
+        one = λ u v h g k l q. single u v h g k l q (ℕ-discrete u (j - 1)) (ℕ-discrete v (j - 1));
+      }
+    where
+      up : (u : ℕ) → j - 1 ≤ u → u < t .size → Dec (u ≡ j - 1) → u ≤ getD (set class (j - 1) r) u 0
+      up u h g (yes e) = let f = there u e in let w = is .within in omega arith
+      up u h g (no n) = let s = still u n in let b = c .above u (omega arith) g in omega arith
+
+      within : (u : ℕ) → j - 1 ≤ u → u < t .size → Dec (u ≡ j - 1) → getD (set class (j - 1) r) u 0 < t .size
+      within u h g (yes e) = let f = there u e in let w = is .inside in omega arith
+      within u h g (no n) = let s = still u n in let b = c .inside u (omega arith) g in omega arith
+
+      led : (u : ℕ) → j - 1 ≤ u → u < t .size → Dec (u ≡ j - 1)
+          → getD (set class (j - 1) r) (getD (set class (j - 1) r) u 0) 0 ≡ getD (set class (j - 1) r) u 0
+      led u h g (yes e) = ap (λ (k : ℕ). getD (set class (j - 1) r) k 0) (there u e) ∙ own-class ∙ sym (there u e)
+      led u h g (no n) =
+          let s = still u n in
+          let b = c .above u (omega arith) g in
+          ap (λ (k : ℕ). getD (set class (j - 1) r) k 0) s ∙ still (getD class u 0) (λ e. omega arith) ∙ c .self u (omega arith) g ∙ sym s
+
+      alike : (u : ℕ) → j - 1 ≤ u → u < t .size → Dec (u ≡ j - 1) → Equal κ t (getD (set class (j - 1) r) u 0) u
+      alike u h g (yes e) =
+          subst (λ (k : ℕ). Equal κ t (getD (set class (j - 1) r) k 0) k) (sym e)
+          (subst (λ (k : ℕ). Equal κ t k (j - 1)) (sym now-there) (is .equal))
+      alike u h g (no n) = subst (λ (k : ℕ). Equal κ t k u) (sym (still u n)) (c .equal u (omega arith) g)
+
+      single : (u v : ℕ) → j - 1 ≤ u → u < t .size → j - 1 ≤ v → v < t .size → Equal κ t u v → Dec (u ≡ j - 1) → Dec (v ≡ j - 1)
+          → getD (set class (j - 1) r) u 0 ≡ getD (set class (j - 1) r) v 0
+      single u v h g k l q (yes e) (yes f) = there u e ∙ sym (there v f)
+      single u v h g k l q (yes e) (no m) =
+          there u e ∙ sym (still v m ∙ is .one v (omega arith) l (equal-symmetric (subst (λ (n : ℕ). Equal κ t n v) e q)))
+      single u v h g k l q (no n) (yes f) =
+          still u n ∙ is .one u (omega arith) g (subst (Equal κ t u) f q) ∙ sym (there v f)
+      single u v h g k l q (no n) (no m) = still u n ∙ c .one u v (omega arith) g (omega arith) l q ∙ sym (still v m)
+
+module _ (κ : ℕ → Class) (t : Table) (tree : IsTree κ t) (class : List ℕ) (i : ℕ) (low : i ≤ 1) (c : ClassedFrom κ t class i) where
+  apart : (y : ℕ) → 0 < y → y < t .size → (x : ℕ) → x ≡ 0 → Equal κ t x y → ⊥
+  apart y p h x z q = tree .rest y p h .notRoot (sym (equal-label q) ∙ ap (λ (k : ℕ). t .label k) z ∙ tree .root)
+
+  pub classed-all : ParentsSmaller t → Classed κ t class
+  classed-all small =
+      record {
+        inside = λ x h. in-it x h (ℕ-discrete x 0);
+        same = λ x y h g e. same-it x y h g e (ℕ-discrete x 0) (ℕ-discrete y 0);
+        equal = λ x y h g q. equal-it x y h g q (ℕ-discrete x 0) (ℕ-discrete y 0);
+      }
+    where
+      zero-class : (x : ℕ) → x ≡ 0 → getD class x 0 ≡ 0
+      zero-class x z = ap (λ (k : ℕ). getD class k 0) z ∙ c .root
+
+      in-it : (x : ℕ) → x < t .size → Dec (x ≡ 0) → getD class x 0 < t .size
+      in-it x h (yes z) = let e = zero-class x z in omega arith
+      in-it x h (no n) = c .inside x (omega arith) h
+
+      same-it : (x y : ℕ) → x < t .size → y < t .size → getD class x 0 ≡ getD class y 0 → Dec (x ≡ 0) → Dec (y ≡ 0) → Equal κ t x y
+      same-it x y h g e (yes z) (yes w) = subst (Equal κ t x) (z ∙ sym w) (equal-reflexive small x)
+      same-it x y h g e (yes z) (no m) = absurd (let a = zero-class x z in let b = c .above y (omega arith) g in omega arith)
+      same-it x y h g e (no n) (yes w) = absurd (let a = zero-class y w in let b = c .above x (omega arith) h in omega arith)
+      same-it x y h g e (no n) (no m) =
+          equal-transitive (equal-symmetric (c .equal x (omega arith) h))
+          (subst (λ (k : ℕ). Equal κ t k y) (sym e) (c .equal y (omega arith) g))
+
+      equal-it : (x y : ℕ) → x < t .size → y < t .size → Equal κ t x y → Dec (x ≡ 0) → Dec (y ≡ 0) → getD class x 0 ≡ getD class y 0
+      equal-it x y h g q (yes z) (yes w) = ap (λ (k : ℕ). getD class k 0) (z ∙ sym w)
+      equal-it x y h g q (yes z) (no m) = absurd (apart y (omega arith) g x z q)
+      equal-it x y h g q (no n) (yes w) = absurd (apart x (omega arith) h y w (equal-symmetric q))
+      equal-it x y h g q (no n) (no m) = c .one x y (omega arith) h (omega arith) g q
+
+pub classed-at : (κ : ℕ → Class) (t : Table) (class : List ℕ) (j : ℕ) → 1 < j → ClassedFrom κ t class j → ClassedFrom κ t class (j - 1 + 1)
+classed-at κ t class j h c = let e : j ≡ j - 1 + 1 = omega arith in subst (ClassedFrom κ t class) e c
+
+pub sorted-none : (weight bucket : List ℕ) (count : ℕ) → length bucket ≡ 4096 → Sorted weight bucket count 0
+sorted-none weight bucket count l = record { long = l; each = λ x h. absurd (omega arith) }
+
+pub sorted-all : (weight bucket : List ℕ) (count n : ℕ) → count ≤ n → n ≤ count → Sorted weight bucket count n → Sorted weight bucket count count
+sorted-all weight bucket count n h g s = let e : n ≡ count = omega arith in subst (Sorted weight bucket count) e s
+
+pub sorted-at : (weight bucket : List ℕ) (count size : ℕ) → count ≡ size → Sorted weight bucket count count → Sorted weight bucket size size
+sorted-at weight bucket count size e s = subst (λ (n : ℕ). Sorted weight bucket n n) e s
+
+pub chained-at : (bucket chained : List ℕ) (count size : ℕ) → count ≡ size → Nexts (byClass count bucket) chained → Nexts (byClass size bucket) chained
+chained-at bucket chained count size e s = subst (λ (n : ℕ). Nexts (byClass n bucket) chained) e s
+
+pub sorted-inside : (weight bucket : List ℕ) (count : ℕ) → 0 < count → Sorted weight bucket count count → (x : ℕ) → x < count → getD bucket x 0 < count
+sorted-inside weight bucket count p s x h = let e = s .each x h in let m = mod-lt (getD weight x 0) p in omega arith
+
+pub bucket-small : (w count : ℕ) → 0 < count → w % count < count
+bucket-small w count p = mod-lt w p
+
+pub seeking-falls : (count : ℕ) (bucket chained : List ℕ) → Nexts (byClass count bucket) chained → (y n : ℕ) → 0 < y → y < count
+    → n ≡ getD chained y 0 → left count n < left count y
+seeking-falls count bucket chained links y n p h e =
+    left-falls count y n p h (λ q. next-in count bucket chained links y n p h e .member q .0)

@@ -1,3 +1,3 @@
--- The class of each node, its smallest equal one, and the next node of its class.
-pub mod Leaders
+-- The class of each node and the next node of its class.
 pub mod Chain
+pub mod Leaders

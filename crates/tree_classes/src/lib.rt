@@ -1,69 +1,91 @@
-// The class of each node: "the smallest node equal to it, found among earlier nodes of the same weight by `node_eq`"; and the next node of its class.
+// The class of each node: one node that stands for all that are equal to it, found among later nodes of the same weight by `node_eq`; and the
+// next node of its class.
 use tree_equal::node_eq;
 use tree_nodes::fields::size;
 use tree_nodes::links::at;
 use tree_nodes::links::blank;
 ghost use mathlib.Core.Path.{_≡_};
 ghost use mathlib.Core.Bool.{Bool};
-ghost use Prim.Native.Nat.{ℕ, _<_, _≤_};
+ghost use Prim.Native.Nat.{ℕ, _+_, _<_, _≤_};
+ghost use Rattle.meaning.specs.Trees.{Equal};
 ghost use lib.ListN.{length, getD};
 ghost use Rattle.tree_nodes.specs.FileTable.{fileTable, classBy};
 ghost use Rattle.tree_nodes.specs.Ready.{Ready};
 ghost use Rattle.tree_nodes.specs.Links.{Nexts};
 ghost use Rattle.tree_nodes.specs.Decides.{Decides};
 ghost use Rattle.tree_equal.specs.Classed.{Classed};
-ghost use Rattle.tree_classes.specs.Leaders.{Weighed, Leader, ClassIs};
+ghost use Rattle.tree_classes.specs.Leaders.{Weighed, Sorted, ClassIs, ClassedFrom};
 ghost use Rattle.tree_classes.specs.Chain.{byClass};
 
-// Node y leads its class, and x is equal to it; the weights save most calls of `node_eq`.
-fn leads(
+fn wide(n: u32) -> usize
+    ensures { λ r. ⌜ r ≡ n ⌝ }
+{
+    n as usize
+}
+
+// The weights sorted into as many buckets as there are nodes: equal nodes stand in one bucket.
+fn sort(weight: &[u32; 4096], count: usize) -> [u16; 4096]
+    requires { ⌜ (0 < count) × (count ≤ 4096) ⌝ }
+    ensures { λ r. ⌜ Sorted (now (weight .entry)) r count count ⌝ }
+{
+    let mut bucket = blank();
+    let mut x = 0;
+    while x < count {
+        let own = wide(weight[x]) % count;
+        bucket[x] = own as u16;
+        x += 1;
+    }
+    bucket
+}
+
+// Nodes x and y are equal; the weights save most calls of `node_eq`.
+fn alike(
     tree: &[u8],
     classes: &[u8; 256],
     first: &[u16; 4096],
     next: &[u16; 4096],
     weight: &[u32; 4096],
-    class: &[u16; 4096],
-    y: usize,
     x: usize,
+    y: usize,
 ) -> bool
     requires { ⌜ Ready (now classes) (now tree) (now first) (now next) × Weighed (classBy (now classes)) (fileTable (now tree)) (now weight) ⌝ }
-    requires { ⌜ (y < fileTable (now tree) .size) × (x < fileTable (now tree) .size) ⌝ }
-    ensures { λ r. ⌜ Decides (Leader (classBy (now (classes .entry))) (fileTable (now (tree .entry))) (now (class .entry)) y x) r ⌝ }
+    requires { ⌜ (x < fileTable (now tree) .size) × (y < fileTable (now tree) .size) ⌝ }
+    ensures { λ r. ⌜ Decides (Equal (classBy (now (classes .entry))) (fileTable (now (tree .entry))) x y) r ⌝ }
 {
-    if at(class, y) != y {
+    if weight[x] != weight[y] {
         return false;
     }
-    if weight[y] != weight[x] {
-        return false;
-    }
-    node_eq(tree, classes, first, next, y, x)
+    node_eq(tree, classes, first, next, x, y)
 }
 
-// The smallest node equal to x.
+// The class of the next node in the bucket that is equal to x; x itself where there is none.
 fn class_of(
     tree: &[u8],
     classes: &[u8; 256],
     first: &[u16; 4096],
     next: &[u16; 4096],
     weight: &[u32; 4096],
+    bucket: &[u16; 4096],
+    chained: &[u16; 4096],
     class: &[u16; 4096],
     x: usize,
 ) -> usize
     requires { ⌜ Ready (now classes) (now tree) (now first) (now next) × Weighed (classBy (now classes)) (fileTable (now tree)) (now weight) ⌝ }
-    requires { ⌜ x < fileTable (now tree) .size ⌝ }
+    requires { ⌜ Sorted (now weight) (now bucket) (fileTable (now tree) .size) (fileTable (now tree) .size) × Nexts (byClass (fileTable (now tree) .size) (now bucket)) (now chained) ⌝ }
+    requires { ⌜ ClassedFrom (classBy (now classes)) (fileTable (now tree)) (now class) (x + 1) × (0 < x) × (x < fileTable (now tree) .size) ⌝ }
     ensures { λ r. ⌜ ClassIs (classBy (now (classes .entry))) (fileTable (now (tree .entry))) (now (class .entry)) x r ⌝ }
 {
-    let mut y = 0;
-    while y < x {
-        if leads(tree, classes, first, next, weight, class, y, x) {
-            return y;
+    let mut y = at(chained, x);
+    while y != 0 {
+        if alike(tree, classes, first, next, weight, x, y) {
+            return at(class, y);
         }
-        y += 1;
+        y = at(chained, y);
     }
     x
 }
 
-// The class of each node, once per tree.
+// The class of each node, once per tree, from the back.
 pub fn classify(
     tree: &[u8],
     classes: &[u8; 256],
@@ -76,11 +98,23 @@ pub fn classify(
 {
     let mut class = blank();
     let count = size(tree);
-    let mut x = 0;
-    while x < count {
-        let own = class_of(tree, classes, first, next, weight, &class, x);
+    let bucket = sort(weight, count);
+    let chained = chain(&bucket, count);
+    let mut x = count;
+    while 1 < x {
+        x -= 1;
+        let own = class_of(
+            tree,
+            classes,
+            first,
+            next,
+            weight,
+            &bucket,
+            &chained,
+            &class,
+            x,
+        );
         class[x] = own as u16;
-        x += 1;
     }
     class
 }

@@ -20,11 +20,12 @@ use Rattle.tree_nodes.specs.FileTable.{fileTable, classBy, TreeBytes}
 use Rattle.tree_nodes.specs.Ready.{Ready}
 use Rattle.tree_nodes.specs.Links.{LeastChild, Nexts}
 use Rattle.tree_nodes.specs.Seek.{left, left-falls}
+use Rattle.tree_nodes.specs.Decides.{Decides}
 use Rattle.tree_equal.specs.Classed.{Classed}
 use Rattle.tree_pairs.specs.Pairs.{each-one, simple-at}
 use Rattle.tree_classes.specs.Chain.{byClass}
 use Rattle.tree_search.specs.Origin.{OriginIs}
-use Rattle.tree_search.specs.Clash.{Agreeing, Witness, ClashBy, swap-agreeing}
+use Rattle.tree_search.specs.Clash.{Agreeing, Witness, ClashBy, swap-agreeing, witness-breaks}
 
 -- What an accepted key gives: it can be read, it has key paths, and they are simple
 pub record GoodKey (body : List ℕ) : Type 0 where
@@ -202,3 +203,8 @@ module _ (κ : ℕ → Class) (t : Table) (key : Key) (path class : List ℕ) wh
 
     pub broken-none : (q a b : ℕ) → BrokenBy κ t key false q a b
     broken-none q a b = record { yes = λ h. absurd (false≢true h); no = λ h. kept }
+
+-- the answer decides whether the tree breaks the key
+pub broken-decides : {κ : ℕ → Class} {t : Table} {key : Key} {found : Bool} {q a b : ℕ} → BrokenBy κ t key found q a b
+    → Decides (Breaks κ t key) found
+broken-decides w = record { yes = λ h. witness-breaks (w .yes h); no = w .no }
