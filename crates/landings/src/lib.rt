@@ -1,5 +1,5 @@
 // "every key path p of s lands": where a profile key's key path, read along a line of the asked key, ends on a mark.
-use paths::same;
+use joins::same;
 use pattern_lines::line;
 use rule_tests::sets::holds_empty;
 use shapes::bodies::after_path;
