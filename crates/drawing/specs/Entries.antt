@@ -1,11 +1,11 @@
 -- The arrays of a drawing, one number more.
-use Prim.Native.Nat.{ℕ, zero, suc, _+_, _-_, _≤_, _<_}
+use Prim.Native.Nat.{ℕ, zero, suc, _+_, _≤_, _<_}
 use mathlib.Core.Path.{_≡_, refl, sym, ap, ap₂, _∙_}
-use mathlib.Core.Bool.{Bool, true, false, cond, _&&_, _||_}
-use mathlib.Core.List.{List, [], _∷_, _++_, map, append-assoc, append-nil}
+use mathlib.Core.Bool.{Bool, true, false, cond}
+use mathlib.Core.List.{List, [], _∷_, _++_, map, append-assoc}
 use native.Mathlib.Omega.{arith}
 use native.Mathlib.Numerals.{add-one}
-use lib.ListN.{length, getD, set, length-map, length-set, length-append}
+use lib.ListN.{length, set, length-map, length-set}
 use lib.Seq.{getD-set-same, getD-set-other}
 use Rattle.meaning.specs.Limits.{fillerAttribute}
 use Rattle.meaning.specs.Lists.{numbers}
@@ -13,7 +13,7 @@ use Rattle.meaning.specs.Paths.{Class, isElement}
 use Rattle.meaning.specs.Pattern.{Dressed}
 use Rattle.theory_counter.specs.Flattened.{numbers-length}
 use Rattle.drawing.specs.declared.Drawing.{Drawing}
-use Rattle.drawing.specs.Sketch.{Sketch, dressedAs, addTo, entryAt, sketch, Sized, Room, Shown, Entered, nothing}
+use Rattle.drawing.specs.Sketch.{Sketch, dressedAs, addTo, entryAt, sketch, Sized, Shown, Entered, nothing}
 
 pub numbers-more : (count start : ℕ) → numbers (suc count) start ≡ numbers count start ++ ((start + count) ∷ [])
 unfolding numbers

@@ -1,11 +1,10 @@
 -- The trunk, the way on to t and the branches, as the code draws them one after another.
-use Prim.Native.Nat.{ℕ, zero, suc, _+_, _-_, _*_, _≤_, _<_}
-use mathlib.Core.Path.{_≡_, refl, sym, ap, ap₂, _∙_}
-use mathlib.Core.Bool.{Bool, true, false}
-use mathlib.Core.List.{List, [], _∷_}
+use Prim.Native.Nat.{ℕ, _+_, _-_, _*_, _≤_}
+use mathlib.Core.Path.{_≡_, ap, ap₂, _∙_}
+use mathlib.Core.Bool.{Bool, false}
+use mathlib.Core.List.{List}
 use native.Mathlib.Omega.{arith}
 use lib.ListN.{length, take, drop, length-take, length-drop}
-use lib.Seq.{take-all}
 use borrow.Rule.Slice.PartAt.{part-to-end}
 use Rattle.meaning.specs.Limits.{rootLabel}
 use Rattle.meaning.specs.Lists.{any, isEmpty}
@@ -13,7 +12,7 @@ use Rattle.meaning.specs.Paths.{Class}
 use Rattle.meaning.specs.Records.{keyIn}
 use Rattle.meaning.specs.Pattern.{qOf, tOf}
 use Rattle.drawing.specs.declared.Drawing.{Drawing}
-use Rattle.drawing.specs.Sketch.{Sketch, nothing, addTo, drawRun, drawBranches, drawTrunk, drawDown, drawTwigs, drawBelow, sketch, Sized, Room, Shown, Sizes, Asked}
+use Rattle.drawing.specs.Sketch.{Sketch, nothing, addTo, drawRun, drawBranches, drawTrunk, drawDown, drawTwigs, drawBelow, sketch, Room, Shown, Asked}
 
 pub room-of : {r : Drawing} {s : Sketch} {most : ℕ} (more : ℕ) → Shown r s most → most + more ≤ 128 → Room r more
 room-of more h k = record { sized = h .sized; room = let a = h .short in omega arith }

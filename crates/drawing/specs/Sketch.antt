@@ -1,6 +1,6 @@
 -- The pattern drawn node after node, "each any-path drawn as one filler element", "each element .. followed at once by a filler attribute":
 -- document 01, "The counterexample that is written". What the code has drawn so far is such a sketch.
-use Prim.Native.Nat.{ℕ, zero, suc, _+_, _-_, _≤_, _<_}
+use Prim.Native.Nat.{ℕ, _+_, _-_, _≤_, _<_}
 use mathlib.Core.Path.{_≡_}
 use mathlib.Core.Bool.{Bool, true, false, cond, _&&_, _||_}
 use mathlib.Core.List.{List, [], _∷_, _++_, map}

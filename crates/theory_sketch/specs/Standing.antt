@@ -1,29 +1,28 @@
 -- A sketch that shows the first n nodes of the pattern, dressed; one node more; a run and the branches more.
-use Prim.Native.Nat.{ℕ, zero, suc, _+_, _-_, _≤_, _<_}
+use Prim.Native.Nat.{ℕ, suc, _+_, _≤_, _<_}
 use mathlib.Core.Path.{_≡_, refl, sym, ap, ap₂, subst, _∙_}
-use mathlib.Core.Bool.{Bool, true, false, cond, _&&_, _||_}
+use mathlib.Core.Bool.{Bool, true, false, cond}
 use mathlib.Core.List.{List, [], _∷_, _++_, map, flatten, append-assoc, append-nil}
 use native.Mathlib.Omega.{arith}
 use lib.ListN.{length, getD, length-append}
 use Rattle.meaning.specs.Limits.{fillerAttribute, rootLabel}
-use Rattle.meaning.specs.Lists.{any, isEmpty, numbers}
+use Rattle.meaning.specs.Lists.{numbers}
 use Rattle.meaning.specs.Paths.{Class, isElement}
 use Rattle.meaning.specs.Trees.{Node, noNode, tableOf}
 use Rattle.meaning.specs.Keys.{Key}
-use Rattle.meaning.specs.Pattern.{Dressed, drawn, run, branches, tOf, patternNodes, pattern, marked, placeOf, widths, filler, dressedNode, dressed}
-use Rattle.theory_counter.specs.Places.{bit, Placing}
-use Rattle.theory_counter.specs.Numbered.{Numbered, none, next, Is, numbered-left, numbered-right}
+use Rattle.meaning.specs.Pattern.{Dressed, drawn, run, branches, patternNodes, pattern, marked, placeOf, widths, filler, dressedNode, dressed}
+use Rattle.theory_counter.specs.Places.{bit}
+use Rattle.theory_counter.specs.Numbered.{Numbered, next, Is, numbered-left, numbered-right}
 use Rattle.theory_counter.specs.Lines.{total, last, run-length}
-use Rattle.theory_counter.specs.PatternLaws.{pattern-length}
 use Rattle.theory_counter.specs.WrittenLaws.{placing}
 use Rattle.drawing.specs.Sketch.{Sketch, dressedAs, addTo, drawRun, hang, drawBranches, nothing}
 use Rattle.drawing.specs.Entries.{numbers-more, map-append}
 use Rattle.theory_sketch.specs.Marks.{MarksOf, BranchMarks}
 
-flatten-more : {A : Type 0} (xs : List (List A)) (y : List A) → flatten (xs ++ (y ∷ [])) ≡ flatten xs ++ y
+pub flatten-append : {A : Type 0} (xs ys : List (List A)) → flatten (xs ++ ys) ≡ flatten xs ++ flatten ys
 unfolding flatten
-flatten-more [] y = append-nil y
-flatten-more {A} (x ∷ xs) y = ap (λ (w : List A). x ++ w) (flatten-more xs y) ∙ sym (append-assoc x (flatten xs) y)
+flatten-append [] ys = refl
+flatten-append {A} (x ∷ xs) ys = ap (λ (w : List A). x ++ w) (flatten-append xs ys) ∙ sym (append-assoc x (flatten xs) (flatten ys))
 
 dressed-long : (κ : ℕ → Class) (above at label : ℕ) (mark : Bool) → length (dressedAs κ above at label mark) ≡ suc (bit (isElement (κ label)))
 unfolding dressedAs bit
@@ -41,13 +40,13 @@ module _ (κ : ℕ → Class) (asked : Key) where
   firsts n = flatten (map (dressed κ asked) (numbers n 0))
 
   firsts-more : (n : ℕ) → firsts (suc n) ≡ firsts n ++ dressed κ asked n
-  unfolding firsts
+  unfolding firsts flatten
   firsts-more n =
       let e : 0 + n ≡ n = omega arith in
       ap (λ (l : List ℕ). flatten (map (dressed κ asked) l)) (numbers-more n 0)
       ∙ ap flatten (map-append (dressed κ asked) (numbers n 0) ((0 + n) ∷ []))
-      ∙ flatten-more (map (dressed κ asked) (numbers n 0)) (dressed κ asked (0 + n))
-      ∙ ap (λ (k : ℕ). flatten (map (dressed κ asked) (numbers n 0)) ++ dressed κ asked k) e
+      ∙ flatten-append (map (dressed κ asked) (numbers n 0)) (dressed κ asked (0 + n) ∷ [])
+      ∙ ap (λ (l : List Dressed). flatten (map (dressed κ asked) (numbers n 0)) ++ l) (append-nil (dressed κ asked (0 + n)) ∙ ap (dressed κ asked) e)
 
   -- The sketch shows the first n nodes, and the next hangs under node `above`. The root's parent is nobody's number: it is not drawn
   pub record Standing (n above : ℕ) (s : Sketch) : Type 0 where

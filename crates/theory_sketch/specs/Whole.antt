@@ -1,22 +1,20 @@
 -- Trunk, way on to t and branches, one after another: the whole dressed pattern.
-use Prim.Native.Nat.{ℕ, zero, suc, _+_, _-_, _≤_, _<_}
-use mathlib.Core.Path.{_≡_, refl, sym, ap, ap₂, subst, subst₂, _∙_}
-use mathlib.Core.Bool.{Bool, true, false}
+use Prim.Native.Nat.{ℕ, suc, _+_, _-_, _≤_, _<_}
+use mathlib.Core.Path.{_≡_, refl, sym, ap, subst, subst₂, _∙_}
+use mathlib.Core.Bool.{Bool, false}
 use mathlib.Core.List.{List, [], _∷_, _++_, append-assoc, append-nil}
 use native.Mathlib.Omega.{arith}
-use lib.ListN.{length, getD, take, drop, length-append, length-drop, take-append-drop}
+use lib.ListN.{length, take, drop, length-append, length-drop, take-append-drop}
 use lib.Seq.{length-take-le}
 use Rattle.meaning.specs.Limits.{rootLabel}
 use Rattle.meaning.specs.Lists.{any, isEmpty}
 use Rattle.meaning.specs.Paths.{Class}
-use Rattle.meaning.specs.Trees.{Node}
 use Rattle.meaning.specs.Keys.{Key}
-use Rattle.meaning.specs.Pattern.{Dressed, run, branches, qOf, tOf, patternNodes, marked, placeOf, dressedNode, dressedNodes}
+use Rattle.meaning.specs.Pattern.{Dressed, run, qOf, tOf, patternNodes, marked, placeOf, dressedNode, dressedNodes}
 use Rattle.theory_counter.specs.Numbered.{Numbered, Is, numbered-left, numbered-right}
-use Rattle.theory_counter.specs.Lines.{total, last, run-length, run-append, last-chain}
+use Rattle.theory_counter.specs.Lines.{last, run-length, run-append, last-chain}
 use Rattle.theory_counter.specs.PatternLaws.{chain, twigs, chain-here, twigs-here, pattern-length}
-use Rattle.theory_counter.specs.Dressing.{dressed-all}
-use Rattle.drawing.specs.Sketch.{Sketch, addTo, drawRun, drawBranches, nothing, drawTrunk, drawDown, drawTwigs, drawBelow}
+use Rattle.drawing.specs.Sketch.{Sketch, drawRun, drawBranches, drawTrunk, drawDown, drawTwigs, drawBelow}
 use Rattle.theory_sketch.specs.Marks.{MarksOf, unmarked-above, marks-trunk, marks-down, branch-marks}
 use Rattle.theory_sketch.specs.Standing.{firsts, Standing, standing-root, standing-run, standing-branches}
 

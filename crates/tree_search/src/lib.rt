@@ -1,11 +1,6 @@
 // The search for a broken key (document 01, "A tree keeps the key if ..") over pairs of equal nodes, not over triples of nodes: whether two nodes
 // agree on every key path does not depend on the context, and equal nodes are rare.
 use shapes::fields::wide;
-<<<<<<< HEAD
-use tree_nodes::fields::NODES;
-use tree_nodes::fields::label;
-use tree_nodes::fields::parent;
-=======
 use shapes::keys::context;
 use shapes::keys::path;
 use shapes::keys::target;
@@ -18,7 +13,6 @@ use tree_pairs::agree_all;
 use tree_reach::Met;
 use tree_reach::common_context;
 use tree_reach::mark_reached;
->>>>>>> ee6eb2a0f74c415c5fca6a669ea125224e6122fd
 ghost use mathlib.Core.Path.{_≡_};
 ghost use mathlib.Core.Bool.{Bool, true};
 ghost use Prim.Native.Nat.{_<_, _≤_};

@@ -1,21 +1,20 @@
 -- From the class table to the profile's labels: the table of accepted labels says the class of every label.
 use Prim.Native.Nat.{ℕ, _≤_, _<_}
-use mathlib.Core.Path.{_≡_, refl, sym, ap, ap₂, subst, fun-ext, _∙_}
-use mathlib.Core.Bool.{Bool, true, false, cond}
-use mathlib.Core.List.{List, [], _∷_, _++_, List·Memᴰ, List·Memᴰ·head, List·Memᴰ·tail}
+use mathlib.Core.Path.{_≡_, refl, sym, subst, fun-ext}
+use mathlib.Core.Bool.{true}
+use mathlib.Core.List.{List, [], _∷_, List·Memᴰ, List·Memᴰ·head, List·Memᴰ·tail}
 use native.Mathlib.Omega.{arith}
 use native.Mathlib.Decide.{decLt}
-use lib.Dec.{T, eqb}
 use lib.ListN.{length, getD, List·getD-eq-default}
 use borrow.Author.Tests.{ne-eqb}
 use Rattle.meaning.specs.Limits.{inProfile}
-use Rattle.meaning.specs.Paths.{Class, Label, element, declaredClass, classOf}
+use Rattle.meaning.specs.Paths.{Class, Label, classOf}
 use Rattle.meaning.specs.Keys.{Key}
 use Rattle.meaning.specs.Records.{readKey, keyIn, isSome}
 use Rattle.meaning.specs.Pattern.{qOf, tOf}
 use Rattle.theory_paths.specs.Good.{GoodLabels, undeclared-class, undeclared-high, GoodKey, context-length, target-length, key-path-length, paths-within}
 use Rattle.shapes.specs.Classes.{classBy, Tabled, class-tabled}
-use Rattle.drawing.specs.Sketch.{Sizes, Asked}
+use Rattle.drawing.specs.Sketch.{Asked}
 use Rattle.tree_writing.specs.Written.{TreeWritten}
 
 module _ {labels : List Label} {classes : List ℕ} (tabled : Tabled labels classes) (good : GoodLabels labels) (long : length classes ≡ 256) where

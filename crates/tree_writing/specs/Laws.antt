@@ -1,30 +1,25 @@
 -- One law for each step of the writers.
 use Prim.Native.Nat.{ℕ, zero, suc, _+_, _-_, _*_, _%_, _/_, _≤_, _<_}
-use mathlib.Core.Path.{_≡_, refl, sym, ap, ap₂, subst, _∙_}
-use mathlib.Core.Bool.{Bool, true, false, cond}
-use mathlib.Core.List.{List, [], _∷_, _++_, map, flatten, append-assoc, append-nil}
+use mathlib.Core.Path.{_≡_, refl, sym, ap, ap₂, _∙_}
+use mathlib.Core.Bool.{Bool, true, false}
+use mathlib.Core.List.{List, [], _∷_, _++_, map, flatten, append-nil}
 use native.Mathlib.Omega.{arith}
-use native.Mathlib.Numerals.{add-one}
-use lib.Dec.{ltb, eqb}
 use lib.ListN.{length, getD, take, drop, length-append, length-map, length-drop}
 use lib.Seq.{sets, sets-eq}
 use borrow.Author.Tests.{eq-eqb, ne-eqb, lt-ltb, le-ltb}
 use borrow.Rule.Slice.PartAt.{part-to-end}
 use borrow.Rule.Slice.PartMut.{putMid}
-use Rattle.meaning.specs.Limits.{noNumber, rootLabel}
 use Rattle.meaning.specs.Lists.{numbers}
 use Rattle.meaning.specs.Paths.{Class, isElement}
 use Rattle.meaning.specs.Trees.{Node}
-use Rattle.meaning.specs.Keys.{Key}
 use Rattle.meaning.specs.Records.{nodeBytes, recordBytes, wordBytes}
-use Rattle.meaning.specs.Pattern.{Dressed, qOf, tOf, patternNodes, marked, placeOf, dressedNode, dressedNodes, noDressed, writtenNode, writtenNodes, writtenTree}
 use Rattle.theory_counter.specs.Flattened.{numbers-length}
 use Rattle.drawing.specs.declared.Drawing.{Drawing}
-use Rattle.drawing.specs.Sketch.{Sketch, entryAt, sketch, Sized, Shown, drawTrunk, drawBelow}
-use Rattle.drawing.specs.Entries.{numbers-more, map-append, map-agree, sketch-length}
-use Rattle.theory_sketch.specs.Whole.{IsDrawn, whole-drawn, trunk-long, root-unmarked}
+use Rattle.drawing.specs.Sketch.{entryAt, Sized}
+use Rattle.drawing.specs.Entries.{numbers-more, map-append}
+use Rattle.theory_sketch.specs.Standing.{flatten-append}
 use Rattle.tree_writing.specs.Front.{Front, front-none, front-more, front-length, front-same}
-use Rattle.tree_writing.specs.Written.{parentOf, valueOf, nodeFrom, copyBytes, Copying, Copied, TreeWritten}
+use Rattle.tree_writing.specs.Written.{parentOf, valueOf, nodeFrom, copyBytes, Copying, Copied}
 
 -- the parent
 pub parent-root : (above cut shift x : ℕ) → x ≡ 0 → 65535 ≡ parentOf above cut shift x
@@ -84,15 +79,10 @@ node-written κ d cut shift x a l e p v f =
     f
 
 -- the bytes of a copy
-pub flatten-more : {A : Type 0} (xs ys : List (List A)) → flatten (xs ++ ys) ≡ flatten xs ++ flatten ys
-unfolding flatten
-flatten-more [] ys = refl
-flatten-more {A} (x ∷ xs) ys = ap (λ (w : List A). x ++ w) (flatten-more xs ys) ∙ sym (append-assoc x (flatten xs) (flatten ys))
-
 pub nodes-more : (f : ℕ → Node) (xs ys : List ℕ) → flatten (map nodeBytes (map f (xs ++ ys))) ≡ flatten (map nodeBytes (map f xs)) ++ flatten (map nodeBytes (map f ys))
 nodes-more f xs ys =
     ap (λ (l : List Node). flatten (map nodeBytes l)) (map-append f xs ys) ∙ ap flatten (map-append nodeBytes (map f xs) (map f ys))
-    ∙ flatten-more (map nodeBytes (map f xs)) (map nodeBytes (map f ys))
+    ∙ flatten-append (map nodeBytes (map f xs)) (map nodeBytes (map f ys))
 
 nodes-length : (l : List Node) → length (flatten (map nodeBytes l)) ≡ 9 * length l
 unfolding flatten

@@ -1,8 +1,8 @@
 -- Trunk, first copy and second copy are the written tree.
 use Prim.Native.Nat.{ℕ, zero, suc, _+_, _-_, _*_, _≤_, _<_}
-use mathlib.Core.Path.{_≡_, refl, sym, ap, ap₂, subst, _∙_}
-use mathlib.Core.Bool.{Bool, true, false, cond}
-use mathlib.Core.List.{List, [], _∷_, _++_, map, flatten, append-assoc}
+use mathlib.Core.Path.{_≡_, sym, ap, ap₂, subst, _∙_}
+use mathlib.Core.Bool.{Bool, false, cond}
+use mathlib.Core.List.{List, _∷_, _++_, map, flatten}
 use native.Mathlib.Omega.{arith}
 use lib.ListN.{length, getD, take, drop, length-append}
 use borrow.Rule.Slice.PartMut.{putMid}
@@ -12,17 +12,18 @@ use Rattle.meaning.specs.Paths.{Class, isElement}
 use Rattle.meaning.specs.Trees.{Node}
 use Rattle.meaning.specs.Keys.{Key}
 use Rattle.meaning.specs.Records.{keyIn, nodeBytes}
-use Rattle.meaning.specs.Pattern.{Dressed, qOf, tOf, patternNodes, marked, placeOf, dressedNode, dressedNodes, noDressed, writtenNode, writtenNodes, writtenTree}
+use Rattle.meaning.specs.Pattern.{Dressed, patternNodes, marked, placeOf, dressedNode, dressedNodes, noDressed, writtenNode, writtenNodes, writtenTree}
 use Rattle.theory_counter.specs.Flattened.{map-numbers-at}
 use Rattle.theory_counter.specs.PatternLaws.{pattern-length}
 use Rattle.theory_counter.specs.WrittenLaws.{all-nodes}
 use Rattle.drawing.specs.declared.Drawing.{Drawing}
-use Rattle.drawing.specs.Sketch.{Sketch, entryAt, sketch, Sized, Shown, Asked, drawTrunk, drawBelow}
+use Rattle.drawing.specs.Sketch.{Sketch, entryAt, sketch, Shown, Asked, drawTrunk, drawBelow}
 use Rattle.drawing.specs.Entries.{map-append, map-agree, sketch-length}
+use Rattle.theory_sketch.specs.Standing.{flatten-append}
 use Rattle.theory_sketch.specs.Whole.{IsDrawn, whole-drawn, trunk-long, root-unmarked}
 use Rattle.tree_writing.specs.Front.{Front, front-more, front-length, front-same}
 use Rattle.tree_writing.specs.Written.{parentOf, valueOf, nodeFrom, copyBytes, Copying, TreeWritten}
-use Rattle.tree_writing.specs.Laws.{flatten-more, nodes-more, numbers-split, copy-length, copying-rest}
+use Rattle.tree_writing.specs.Laws.{nodes-more, numbers-split, copy-length, copying-rest}
 
 module _ (κ : ℕ → Class) (asked : Key) (d : Drawing) (drew : IsDrawn κ asked (sketch d)) (root : marked asked 0 ≡ false) where
   entry-is : (x : ℕ) → x < d .size → entryAt d x ≡ getD (record { parent = 0; label = rootLabel; mark = false } ∷ drew .rest) x (noDressed κ asked)
@@ -64,7 +65,7 @@ module _ (κ : ℕ → Class) (asked : Key) (d : Drawing) (drew : IsDrawn κ ask
       (copy-is cut (d .size - cut) cut (d .size - cut) (omega arith))
       ∙ sym
       (ap flatten (map-append nodeBytes (map (writtenNode κ asked cut 0) (numbers (d .size) 0)) (map (writtenNode κ asked cut (d .size - cut)) (numbers (d .size - cut) cut)))
-      ∙ flatten-more (map nodeBytes (map (writtenNode κ asked cut 0) (numbers (d .size) 0))) (map nodeBytes (map (writtenNode κ asked cut (d .size - cut)) (numbers (d .size - cut) cut))))
+      ∙ flatten-append (map nodeBytes (map (writtenNode κ asked cut 0) (numbers (d .size) 0))) (map nodeBytes (map (writtenNode κ asked cut (d .size - cut)) (numbers (d .size - cut) cut))))
 
 module _ (κ : ℕ → Class) {body : List ℕ} {u : ℕ} (asked : Asked body u) {trunk d : Drawing} (h : Shown trunk (drawTrunk κ (keyIn body) u) 34)
     (k : Shown d (drawBelow κ (keyIn body) u (sketch trunk)) 128) where

@@ -1,8 +1,8 @@
 -- A node of a copy, and the bytes of a copy: document 01, "as a first copy, then as a second copy".
-use Prim.Native.Nat.{ℕ, zero, suc, _+_, _-_, _*_, _≤_, _<_}
+use Prim.Native.Nat.{ℕ, _+_, _-_, _*_, _≤_}
 use mathlib.Core.Path.{_≡_}
-use mathlib.Core.Bool.{Bool, true, false, cond}
-use mathlib.Core.List.{List, [], _∷_, _++_, map, flatten}
+use mathlib.Core.Bool.{Bool, cond}
+use mathlib.Core.List.{List, _++_, map, flatten}
 use lib.Dec.{ltb, eqb}
 use lib.ListN.{length, drop}
 use Rattle.meaning.specs.Limits.{noNumber}

@@ -1,12 +1,8 @@
+-- `drawing::add` meets its contract. One law of specs/ for each step.
 use Rattle.drawing.specs.Entries.{added-element, added-leaf}
 use borrow.Author.Needs.{needs}
 use Rattle.drawing.proofs.add.Statement.{statement}
 use Rattle.drawing.proofs.add.Tie as tie
-use Rattle.drawing.proofs.add.Reads as reads
-use Rattle.drawing.proofs.add.Lts as lts
-use Rattle.drawing.proofs.put.Reads as put-reads
-use Rattle.shapes.proofs.fields.wide.Reads as wide-reads
-use Rattle.tree_nodes.proofs.fields.is_element.Reads as is-element-reads
 
 -- src/lib.rt:71:14
 cast-at : tie.Need-cast-at

@@ -1,9 +1,8 @@
+-- `drawing::blank` meets its contract. One law of specs/ for each step.
 use mathlib.Core.Path.{refl}
 use Rattle.drawing.specs.Entries.{blank-drew}
 use Rattle.drawing.proofs.blank.Statement.{statement}
 use Rattle.drawing.proofs.blank.Tie as tie
-use Rattle.drawing.proofs.blank.Reads as reads
-use Rattle.drawing.proofs.blank.Lts as lts
 
 -- src/lib.rt:38:1
 returns : tie.Need-returns

@@ -1,15 +1,9 @@
+-- `drawing::draw_below` meets its contract. One law of specs/ for each step.
 use native.Mathlib.Omega.{arith}
 use Rattle.drawing.specs.Parts.{room-of, room-less, cut-within, cut-before, on-few, below-drawn}
 use borrow.Author.Needs.{needs}
 use Rattle.drawing.proofs.draw_below.Statement.{statement}
 use Rattle.drawing.proofs.draw_below.Tie as tie
-use Rattle.drawing.proofs.draw_below.Reads as reads
-use Rattle.drawing.proofs.draw_below.Lts as lts
-use Rattle.drawing.proofs.draw_branches.Reads as draw-branches-reads
-use Rattle.drawing.proofs.draw_run.Reads as draw-run-reads
-use Rattle.drawing.proofs.holds_empty.Reads as holds-empty-reads
-use Rattle.shapes.proofs.keys.context.Reads as context-reads
-use Rattle.shapes.proofs.keys.target.Reads as target-reads
 
 -- src/lib.rt:170:9
 holds-empty-requires : tie.Need-holds-empty-requires

@@ -1,4 +1,5 @@
-use Prim.Native.Nat.{_-_, _<_}
+-- `drawing::draw_branches` meets its contract. One law of specs/ for each step.
+use Prim.Native.Nat.{_-_}
 use mathlib.Core.Path.{refl, ap}
 use native.Mathlib.Omega.{arith}
 use lib.ListN.{length}
@@ -7,11 +8,6 @@ use Rattle.shapes.specs.Classes.{classBy}
 use Rattle.drawing.specs.Runs.{Branching, hung, branching-start, branching-room, branching-next, branching-end}
 use Rattle.drawing.proofs.draw_branches.Statement.{statement}
 use Rattle.drawing.proofs.draw_branches.Tie as tie
-use Rattle.drawing.proofs.draw_branches.Reads as reads
-use Rattle.drawing.proofs.draw_branches.Lts as lts
-use Rattle.drawing.proofs.draw_run.Reads as draw-run-reads
-use Rattle.shapes.proofs.keys.count.Reads as count-reads
-use Rattle.shapes.proofs.keys.path.Reads as path-reads
 
 abbrev Inv-loop : tie.InvT-loop
 Inv-loop asked classes whole t n d₀ i₀ d i = Branching (classBy classes) whole d₀ d (keyIn asked .paths) i

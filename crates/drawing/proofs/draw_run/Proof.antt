@@ -1,3 +1,4 @@
+-- `drawing::draw_run` meets its contract. One law of specs/ for each step.
 use Prim.Native.Nat.{_-_}
 use native.Mathlib.Omega.{arith}
 use lib.ListN.{length}
@@ -5,11 +6,6 @@ use Rattle.shapes.specs.Classes.{classBy}
 use Rattle.drawing.specs.Runs.{Running, running-start, running-room, running-next, running-end}
 use Rattle.drawing.proofs.draw_run.Statement.{statement}
 use Rattle.drawing.proofs.draw_run.Tie as tie
-use Rattle.drawing.proofs.draw_run.Reads as reads
-use Rattle.drawing.proofs.draw_run.Lts as lts
-use Rattle.drawing.proofs.add.Reads as add-reads
-use Rattle.drawing.proofs.drawn.Reads as drawn-reads
-use Rattle.drawing.proofs.is_marked.Reads as is-marked-reads
 
 abbrev Inv-loop : tie.InvT-loop
 Inv-loop classes run every last d₀ i₀ d i = Running (classBy classes) every last d₀ d run i

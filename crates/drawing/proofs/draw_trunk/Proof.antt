@@ -1,15 +1,9 @@
+-- `drawing::draw_trunk` meets its contract. One law of specs/ for each step.
 use native.Mathlib.Omega.{arith}
 use Rattle.drawing.specs.Parts.{room-of, cut-within, cut-before, context-few, up-few, trunk-drawn}
 use borrow.Author.Needs.{needs}
 use Rattle.drawing.proofs.draw_trunk.Statement.{statement}
 use Rattle.drawing.proofs.draw_trunk.Tie as tie
-use Rattle.drawing.proofs.draw_trunk.Reads as reads
-use Rattle.drawing.proofs.draw_trunk.Lts as lts
-use Rattle.drawing.proofs.add.Reads as add-reads
-use Rattle.drawing.proofs.blank.Reads as blank-reads
-use Rattle.drawing.proofs.draw_run.Reads as draw-run-reads
-use Rattle.shapes.proofs.keys.context.Reads as context-reads
-use Rattle.shapes.proofs.keys.target.Reads as target-reads
 
 -- src/lib.rt:157:20
 blank-requires : tie.Need-blank-requires

@@ -1,8 +1,7 @@
+-- `drawing::drawn` meets its contract. One law of specs/ for each step.
 use Rattle.drawing.specs.Runs.{drawn-any, drawn-label}
 use Rattle.drawing.proofs.drawn.Statement.{statement}
 use Rattle.drawing.proofs.drawn.Tie as tie
-use Rattle.drawing.proofs.drawn.Reads as reads
-use Rattle.drawing.proofs.drawn.Lts as lts
 
 -- src/lib.rt:85:9
 returns : tie.Need-returns

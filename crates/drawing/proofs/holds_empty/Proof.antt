@@ -1,13 +1,10 @@
+-- `drawing::holds_empty` meets its contract. One law of specs/ for each step.
 use Prim.Native.Nat.{_-_}
 use native.Mathlib.Omega.{arith}
 use Rattle.meaning.specs.Records.{keyIn}
 use Rattle.drawing.specs.Runs.{Seeking, seeking-start, seeking-stop, seeking-next, seeking-end}
 use Rattle.drawing.proofs.holds_empty.Statement.{statement}
 use Rattle.drawing.proofs.holds_empty.Tie as tie
-use Rattle.drawing.proofs.holds_empty.Reads as reads
-use Rattle.drawing.proofs.holds_empty.Lts as lts
-use Rattle.shapes.proofs.keys.count.Reads as count-reads
-use Rattle.shapes.proofs.keys.path.Reads as path-reads
 
 abbrev Inv-loop : tie.InvT-loop
 Inv-loop asked n i₀ i = Seeking (keyIn asked .paths) i

@@ -1,10 +1,9 @@
+-- `drawing::put` meets its contract. One law of specs/ for each step.
 use native.Mathlib.Omega.{arith}
 use Rattle.drawing.specs.Entries.{entered}
 use borrow.Author.Needs.{needs}
 use Rattle.drawing.proofs.put.Statement.{statement}
 use Rattle.drawing.proofs.put.Tie as tie
-use Rattle.drawing.proofs.put.Reads as reads
-use Rattle.drawing.proofs.put.Lts as lts
 
 -- src/lib.rt:57:5
 element-write-d : tie.Need-element-write-d

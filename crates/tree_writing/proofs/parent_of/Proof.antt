@@ -1,10 +1,8 @@
-use native.Mathlib.Omega.{arith}
+-- `tree_writing::parent_of` meets its contract. One law of specs/ for each step.
 use Rattle.tree_writing.specs.Laws.{parent-root, parent-trunk, parent-copy}
 use borrow.Author.Needs.{needs}
 use Rattle.tree_writing.proofs.parent_of.Statement.{statement}
 use Rattle.tree_writing.proofs.parent_of.Tie as tie
-use Rattle.tree_writing.proofs.parent_of.Reads as reads
-use Rattle.tree_writing.proofs.parent_of.Lts as lts
 
 -- src/lib.rt:66:9
 returns : tie.Need-returns

@@ -1,10 +1,8 @@
-use native.Mathlib.Omega.{arith}
+-- `tree_writing::value_of` meets its contract. One law of specs/ for each step.
 use Rattle.tree_writing.specs.Laws.{value-element, value-twin, value-own}
 use borrow.Author.Needs.{needs}
 use Rattle.tree_writing.proofs.value_of.Statement.{statement}
 use Rattle.tree_writing.proofs.value_of.Tie as tie
-use Rattle.tree_writing.proofs.value_of.Reads as reads
-use Rattle.tree_writing.proofs.value_of.Lts as lts
 
 -- src/lib.rt:80:9
 returns : tie.Need-returns

@@ -1,3 +1,4 @@
+-- `tree_writing::write_copy` meets its contract. One law of specs/ for each step.
 use Prim.Native.Nat.{_-_}
 use mathlib.Core.Path.{refl}
 use native.Mathlib.Omega.{arith}
@@ -7,9 +8,6 @@ use Rattle.tree_writing.specs.Written.{Copied}
 use Rattle.tree_writing.specs.Laws.{copied-start, copied-room, copied-rest, copied-next, copied-end}
 use Rattle.tree_writing.proofs.write_copy.Statement.{statement}
 use Rattle.tree_writing.proofs.write_copy.Tie as tie
-use Rattle.tree_writing.proofs.write_copy.Reads as reads
-use Rattle.tree_writing.proofs.write_copy.Lts as lts
-use Rattle.tree_writing.proofs.write_drawn.Reads as write-drawn-reads
 
 abbrev Inv-loop : tie.InvT-loop
 Inv-loop out₀ drawing classes from to cut shift x₀ out x = Copied (classBy classes) drawing cut shift from to out₀ out x

@@ -1,14 +1,8 @@
+-- `tree_writing::write_drawn` meets its contract. One law of specs/ for each step.
 use Rattle.tree_writing.specs.Laws.{node-written}
 use borrow.Author.Needs.{needs}
 use Rattle.tree_writing.proofs.write_drawn.Statement.{statement}
 use Rattle.tree_writing.proofs.write_drawn.Tie as tie
-use Rattle.tree_writing.proofs.write_drawn.Reads as reads
-use Rattle.tree_writing.proofs.write_drawn.Lts as lts
-use Rattle.shapes.proofs.fields.wide.Reads as wide-reads
-use Rattle.tree_nodes.proofs.fields.is_element.Reads as is-element-reads
-use Rattle.tree_writing.proofs.parent_of.Reads as parent-of-reads
-use Rattle.tree_writing.proofs.value_of.Reads as value-of-reads
-use Rattle.tree_writing.proofs.write_node.Reads as write-node-reads
 
 -- src/lib.rt:100:22
 element-copy-out-wide : tie.Need-element-copy-out-wide

@@ -1,13 +1,10 @@
+-- `tree_writing::write_node` meets its contract. One law of specs/ for each step.
 use native.Mathlib.Omega.{arith}
 use lib.ListN.{length-set}
 use Rattle.tree_writing.specs.Laws.{node-stored}
 use borrow.Author.Needs.{needs}
 use Rattle.tree_writing.proofs.write_node.Statement.{statement}
 use Rattle.tree_writing.proofs.write_node.Tie as tie
-use Rattle.tree_writing.proofs.write_node.Reads as reads
-use Rattle.tree_writing.proofs.write_node.Lts as lts
-use Rattle.tree_writing.proofs.high.Reads as high-reads
-use Rattle.tree_writing.proofs.low.Reads as low-reads
 
 -- src/lib.rt:45:9
 low-requires : tie.Need-low-requires

@@ -1,12 +1,8 @@
+-- `tree_writing::write_tree` meets its contract. One law of specs/ for each step.
 use Rattle.tree_writing.specs.Tree.{cut-within, first-room, second-room, tree-written}
 use borrow.Author.Needs.{needs}
 use Rattle.tree_writing.proofs.write_tree.Statement.{statement}
 use Rattle.tree_writing.proofs.write_tree.Tie as tie
-use Rattle.tree_writing.proofs.write_tree.Reads as reads
-use Rattle.tree_writing.proofs.write_tree.Lts as lts
-use Rattle.drawing.proofs.draw_below.Reads as draw-below-reads
-use Rattle.drawing.proofs.draw_trunk.Reads as draw-trunk-reads
-use Rattle.tree_writing.proofs.write_copy.Reads as write-copy-reads
 
 -- src/lib.rt:134:9
 draw-trunk-requires : tie.Need-draw-trunk-requires
