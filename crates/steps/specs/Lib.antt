@@ -1,4 +1,3 @@
-pub mod Profile
 pub mod Firing
 pub mod Ranges
 pub mod Finding

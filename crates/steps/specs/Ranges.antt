@@ -1,6 +1,6 @@
 -- The ranges of the outer loops: the branches, then the profile's keys. A law for each return and each turn.
-use Prim.Native.Nat.{ℕ, _+_, _-_, _≤_, _<_}
-use mathlib.Core.Path.{_≡_, sym, ap, subst, _∙_}
+use Prim.Native.Nat.{ℕ, zero, suc, _+_, _-_, _≤_, _<_}
+use mathlib.Core.Path.{_≡_, refl, sym, ap, subst, _∙_}
 use mathlib.Core.Logic.{_⊎_, inl, inr}
 use mathlib.Core.Bool.{true, false}
 use mathlib.Core.List.{List}
@@ -19,9 +19,9 @@ use Rattle.theory_derive.specs.Spots.{Taken as Step, lineOf, firesBy, firesFoun
 use Rattle.theory_derive.specs.Firing.{fires-says}
 use Rattle.theory_derive.specs.Lines.{line-length}
 use Rattle.theory_derive.specs.Ranges.{InRange}
+use Rattle.lines.specs.Premises.{keysFrom, KeyRecord, KeyRecords, key-at}
 use Rattle.pattern_lines.specs.Drawn.{Drawn}
 use Rattle.steps.specs.declared.firing.Taken.{Taken}
-use Rattle.steps.specs.Profile.{KeyStands, keyAt, keysAt, keys-length, keys-found}
 use Rattle.steps.specs.Firing.{OnBranch, Hit, NoneAt, NoneOn}
 
 -- below u, where u is no t yet
@@ -99,39 +99,44 @@ module _ {body lines key : List ℕ} {u : ℕ} (o : OfKey body lines key u) {bel
 unfoldable pub stepOf : Taken → Step
 stepOf t = record { key = t .key; node = t .node; branch = t .branch; spot = t .spot }
 
-pub record OfKeys (profile : List ℕ) (labels keys : ℕ) (body lines : List ℕ) (u : ℕ) : Type 0 where
-  pub ready : Ready body lines u
-  pub stand : (n : ℕ) → n < keys → KeyStands (recordsFrom (labels + n) profile)
+keys-length : (n : ℕ) (l : List ℕ) → length (keysFrom n l) ≡ n
+unfolding keysFrom
+keys-length zero l = refl
+keys-length (suc n) l = ap suc (keys-length n (drop (recordLength l) l))
 
-pub record HitKeys (profile : List ℕ) (labels keys : ℕ) (body : List ℕ) (u : ℕ) (t : Taken) : Type 0 where
-  pub firing : Fires (keysAt profile labels keys) (keyIn body) (stepOf t)
+-- the profile from its first key on, so many keys
+pub record OfKeys (part : List ℕ) (keys : ℕ) (body lines : List ℕ) (u : ℕ) : Type 0 where
+  pub ready : Ready body lines u
+  pub records : KeyRecords keys part
+
+pub record HitKeys (part : List ℕ) (keys : ℕ) (body : List ℕ) (u : ℕ) (t : Taken) : Type 0 where
+  pub firing : Fires (keysFrom keys part) (keyIn body) (stepOf t)
   pub node : t .node ≤ u
   pub below : u < t .spot
 
-pub record NoneLeft (profile : List ℕ) (labels keys : ℕ) (body : List ℕ) (u : ℕ) : Type 0 where
-  pub none : (t : Step) → InRange (keysAt profile labels keys) (keyIn body) u t → fires (keysAt profile labels keys) (keyIn body) t ≡ false
+pub record NoneLeft (part : List ℕ) (keys : ℕ) (body : List ℕ) (u : ℕ) : Type 0 where
+  pub none : (t : Step) → InRange (keysFrom keys part) (keyIn body) u t → fires (keysFrom keys part) (keyIn body) t ≡ false
 
-fires-key : (profile : List ℕ) (labels keys : ℕ) (asked : Key) (t : Step) → t .key < keys
-    → fires (keysAt profile labels keys) asked t ≡ firesBy asked (keyAt profile (labels + t .key)) (t .node) (t .branch) (t .spot)
+fires-key : (part : List ℕ) (keys : ℕ) (asked : Key) (t : Step) → t .key < keys
+    → fires (keysFrom keys part) asked t ≡ firesBy asked (keyIn (recordBody (recordsFrom (t .key) part))) (t .node) (t .branch) (t .spot)
 unfolding fires firesFound
-fires-key profile labels keys asked t h = ap (firesFound asked t) (keys-found profile labels keys (t .key) h)
+fires-key part keys asked t h = ap (firesFound asked t) (key-at keys (t .key) part h)
 
 -- the keys before this number are passed
-pub record Walking (profile : List ℕ) (labels keys : ℕ) (body : List ℕ) (u number : ℕ) (rest : List ℕ) : Type 0 where
-  pub here : rest ≡ recordsFrom (labels + number) profile
+pub record Walking (part : List ℕ) (keys : ℕ) (body : List ℕ) (u number : ℕ) (rest : List ℕ) : Type 0 where
+  pub here : rest ≡ recordsFrom number part
   pub within : number ≤ keys
-  pub none : (x : ℕ) → x < number → NoneOf (keyIn body) (keyAt profile (labels + x)) u
+  pub none : (x : ℕ) → x < number → NoneOf (keyIn body) (keyIn (recordBody (recordsFrom x part))) u
 
-pub walking-start : (profile : List ℕ) (labels keys : ℕ) (body : List ℕ) (u : ℕ) {rest : List ℕ} → rest ≡ recordsFrom labels profile
-    → Walking profile labels keys body u 0 rest
-walking-start profile labels keys body u e =
-    record { here = e ∙ ap (λ (n : ℕ). recordsFrom n profile) (omega arith); within = omega arith; none = λ x a. absurd (omega arith) }
+pub walking-start : (part : List ℕ) (keys : ℕ) (body : List ℕ) (u : ℕ) → Walking part keys body u 0 part
+unfolding recordsFrom
+walking-start part keys body u = record { here = refl; within = omega arith; none = λ x a. absurd (omega arith) }
 
-module _ {profile : List ℕ} {labels keys : ℕ} {body lines : List ℕ} {u : ℕ} (o : OfKeys profile labels keys body lines u)
-    {number : ℕ} {rest : List ℕ} (w : Walking profile labels keys body u number rest) where
+module _ {part : List ℕ} {keys : ℕ} {body lines : List ℕ} {u : ℕ} (o : OfKeys part keys body lines u) {number : ℕ} {rest : List ℕ}
+    (w : Walking part keys body u number rest) where
   module _ (h : number < keys) {end : ℕ} (e : end ≡ recordLength rest) where
-    stands : KeyStands rest
-    stands = subst KeyStands (sym (w .here)) (o .stand number h)
+    stands : KeyRecord rest
+    stands = subst KeyRecord (sym (w .here)) (o .records .each number h)
 
     pub walking-long : (4 ≤ end) × (end ≤ length rest)
     walking-long = (omega (arith, stands .long), omega (arith, stands .within))
@@ -140,45 +145,40 @@ module _ {profile : List ℕ} {labels keys : ℕ} {body lines : List ℕ} {u : �
     unfolding recordBody
     body-is = ap (λ (n : ℕ). take (n - 4) (drop 4 rest)) e
 
-    key-is : keyIn (take (end - 4) (drop 4 rest)) ≡ keyAt profile (labels + number)
-    unfolding keyAt
+    key-is : keyIn (take (end - 4) (drop 4 rest)) ≡ keyIn (recordBody (recordsFrom number part))
     key-is = ap keyIn (body-is ∙ ap recordBody (w .here))
 
     pub walking-key : OfKey body lines (take (end - 4) (drop 4 rest)) u
-    walking-key = record { ready = o .ready; isKey = ap (λ (l : List ℕ). isSome (readKey l)) body-is ∙ stands .isKey }
+    walking-key = record { ready = o .ready; isKey = ap (λ (l : List ℕ). isSome (readKey l)) body-is ∙ stands .shape }
 
-    pub walking-hit : {t : Taken} → Hit (keyIn body) (keyIn (take (end - 4) (drop 4 rest))) number u t → HitKeys profile labels keys body u t
+    pub walking-hit : {t : Taken} → Hit (keyIn body) (keyIn (take (end - 4) (drop 4 rest))) number u t → HitKeys part keys body u t
     unfolding stepOf
     walking-hit {t} f =
-        record {
-          firing = fires-says (keysAt profile labels keys) (keyIn body) (stepOf t) test;
-          node = f .node;
-          below = f .below;
-        }
+        record { firing = fires-says (keysFrom keys part) (keyIn body) (stepOf t) test; node = f .node; below = f .below }
       where
-        test : T (fires (keysAt profile labels keys) (keyIn body) (stepOf t))
+        test : T (fires (keysFrom keys part) (keyIn body) (stepOf t))
         test =
-            subst T (sym (fires-key profile labels keys (keyIn body) (stepOf t) (omega (arith, f .key))))
+            subst T (sym (fires-key part keys (keyIn body) (stepOf t) (omega (arith, f .key))))
             (subst (λ (s : Key). T (firesBy (keyIn body) s (t .node) (t .branch) (t .spot)))
-            (key-is ∙ ap (λ (n : ℕ). keyAt profile (labels + n)) (sym (f .key))) (f .firing))
+            (key-is ∙ ap (λ (n : ℕ). keyIn (recordBody (recordsFrom n part))) (sym (f .key))) (f .firing))
 
     pub walking-next : NoneOf (keyIn body) (keyIn (take (end - 4) (drop 4 rest))) u → {next : List ℕ} → next ≡ take (length rest - end) (drop end rest)
-        → Walking profile labels keys body u (number + 1) next
+        → Walking part keys body u (number + 1) next
     walking-next m q =
         record {
           here =
               q ∙ part-to-end rest end ∙ ap (λ (n : ℕ). drop n rest) e ∙ ap (λ (l : List ℕ). drop (recordLength l) l) (w .here)
-              ∙ sym (records-next (labels + number) profile) ∙ ap (λ (n : ℕ). recordsFrom n profile) (omega arith);
+              ∙ sym (records-next number part) ∙ ap (λ (n : ℕ). recordsFrom n part) (omega arith);
           within = omega arith;
           none = below-more _ number (w .none) (subst (λ (s : Key). NoneOf (keyIn body) s u) key-is m);
         }
 
-  pub walking-done : keys ≤ number → NoneLeft profile labels keys body u
+  pub walking-done : keys ≤ number → NoneLeft part keys body u
   walking-done h =
       record {
         none =
             λ t r.
-            let k : t .key < keys = omega (arith, r .key, keys-length profile labels keys) in
-            fires-key profile labels keys (keyIn body) t k
+            let k : t .key < keys = omega (arith, r .key, keys-length keys part) in
+            fires-key part keys (keyIn body) t k
             ∙ w .none (t .key) (omega arith) .none (t .branch) (r .branch) .none (t .spot) (r .below) (r .first) (r .onLine) .none (t .node) (r .node);
       }

@@ -5,7 +5,6 @@ use landings::chain_end;
 use paths::member;
 use pattern_lines::line;
 use places::front_length;
-use places::record_at;
 use shapes::fields::HEAD_BYTES;
 use shapes::keys::context;
 use shapes::keys::count;
@@ -118,19 +117,12 @@ fn fire_of(asked: &[u8], lines: &[u8], key: &[u8], number: usize, u: usize) -> F
     Fire::None
 }
 
-// The first step of a profile key to u or above.
-pub fn fire_in(
-    profile: &[u8],
-    labels: usize,
-    keys: usize,
-    asked: &[u8],
-    lines: &[u8],
-    u: usize,
-) -> Fire
-    requires { ⌜ OfKeys (now profile) labels keys (now asked) (now lines) u ⌝ }
-    ensures { λ r. ⌜ Sought (HitKeys (now (profile .entry)) labels keys (now (asked .entry)) u) (NoneLeft (now (profile .entry)) labels keys (now (asked .entry)) u) r ⌝ }
+// The first step of a profile key to u or above; the part begins at the profile's first key.
+pub fn fire_in(part: &[u8], keys: usize, asked: &[u8], lines: &[u8], u: usize) -> Fire
+    requires { ⌜ OfKeys (now part) keys (now asked) (now lines) u ⌝ }
+    ensures { λ r. ⌜ Sought (HitKeys (now (part .entry)) keys (now (asked .entry)) u) (NoneLeft (now (part .entry)) keys (now (asked .entry)) u) r ⌝ }
 {
-    let mut rest = record_at(profile, labels);
+    let mut rest = part;
     let mut number = 0;
     while number < keys {
         let end = front_length(rest);

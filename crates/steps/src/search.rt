@@ -5,9 +5,11 @@ use crate::firing::Taken;
 use crate::firing::fire_in;
 use landings::chain_end;
 use pattern_lines::draw;
+use places::record_at;
 use shapes::keys::context;
 ghost use Prim.Native.Nat.{min};
 ghost use mathlib.Core.Path.{_≡_};
+ghost use Rattle.meaning.specs.Operations.{recordsFrom};
 ghost use Rattle.steps.specs.Finding.{Searchable, Finds};
 
 // "At most |T| turns, at most 8 remembered steps."
@@ -32,9 +34,10 @@ fn least(a: usize, b: usize) -> usize
 
 // The u of the question whose key body is given, and the steps that lead to it.
 pub fn find_steps(profile: &[u8], labels: usize, keys: usize, asked: &[u8]) -> Found
-    requires { ⌜ Searchable (now profile) labels keys (now asked) ⌝ }
-    ensures { λ r. ⌜ Finds (now (profile .entry)) labels keys (now (asked .entry)) r ⌝ }
+    requires { ⌜ Searchable (recordsFrom labels (now profile)) keys (now asked) ⌝ }
+    ensures { λ r. ⌜ Finds (recordsFrom labels (now (profile .entry))) keys (now (asked .entry)) r ⌝ }
 {
+    let part = record_at(profile, labels);
     let lines = draw(asked);
     let t = chain_end(asked);
     let q = context(asked);
@@ -48,7 +51,7 @@ pub fn find_steps(profile: &[u8], labels: usize, keys: usize, asked: &[u8]) -> F
     };
     let mut steps = [none; MOST_STEPS];
     while u < t {
-        let found = fire_in(profile, labels, keys, asked, &lines, u);
+        let found = fire_in(part, keys, asked, &lines, u);
         let Fire::At(taken) = found else {
             return Found { u, count, steps };
         };

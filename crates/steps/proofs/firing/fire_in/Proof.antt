@@ -9,18 +9,14 @@ use Rattle.steps.proofs.firing.fire_in.Statement.{statement}
 use Rattle.steps.proofs.firing.fire_in.Tie as tie
 
 abbrev Inv-loop : tie.InvT-loop
-Inv-loop profile labels keys asked lines u rest₀ number₀ rest number = Walking profile labels keys asked u number rest
+Inv-loop part keys asked lines u rest₀ number₀ rest number = Walking part keys asked u number rest
 
 abbrev μ-loop : tie.MeasureT-loop
-μ-loop profile labels keys asked lines u rest₀ number₀ rest number = keys - number
-
--- src/firing.rt:110:9
-record-at-requires : tie.Need-record-at-requires Inv-loop μ-loop
-record-at-requires c κs = search needs
+μ-loop part keys asked lines u rest₀ number₀ rest number = keys - number
 
 -- src/firing.rt:112:5
 loop-holds : tie.Need-loop-holds Inv-loop μ-loop
-loop-holds c = walking-start _ _ _ _ _ (c .record-at .ensures)
+loop-holds c = walking-start _ _ _ _
 
 -- src/firing.rt:113:13
 front-length-requires : tie.Need-front-length-requires Inv-loop μ-loop
@@ -28,19 +24,19 @@ front-length-requires c κs = search needs
 
 -- src/firing.rt:114:43
 sub-fire-of : tie.Need-sub-fire-of Inv-loop μ-loop
-sub-fire-of c = omega (arith, walking-long (c .before .before .before .before .before .before .before .pre) (c .before .before .loop .inv) (c .before .loop-test .taken) (c .front-length .ensures))
+sub-fire-of c = omega (arith, walking-long (c .before .before .before .before .before .before .pre) (c .before .before .loop .inv) (c .before .loop-test .taken) (c .front-length .ensures))
 
 -- src/firing.rt:114:43
 part-fire-of-start : tie.Need-part-fire-of-start Inv-loop μ-loop
-part-fire-of-start c = omega (arith, walking-long (c .before .before .before .before .before .before .before .pre) (c .before .before .loop .inv) (c .before .loop-test .taken) (c .front-length .ensures))
+part-fire-of-start c = omega (arith, walking-long (c .before .before .before .before .before .before .pre) (c .before .before .loop .inv) (c .before .loop-test .taken) (c .front-length .ensures))
 
 -- src/firing.rt:114:43
 part-fire-of-end : tie.Need-part-fire-of-end Inv-loop μ-loop
-part-fire-of-end c = omega (arith, walking-long (c .before .before .before .before .before .before .before .pre) (c .before .before .loop .inv) (c .before .loop-test .taken) (c .front-length .ensures))
+part-fire-of-end c = omega (arith, walking-long (c .before .before .before .before .before .before .pre) (c .before .before .loop .inv) (c .before .loop-test .taken) (c .front-length .ensures))
 
 -- src/firing.rt:114:13
 fire-of-requires : tie.Need-fire-of-requires Inv-loop μ-loop
-fire-of-requires c κs = walking-key (c .before .before .before .before .before .before .before .before .pre) (c .before .before .before .loop .inv) (c .before .before .loop-test .taken) (c .before .front-length .ensures)
+fire-of-requires c κs = walking-key (c .before .before .before .before .before .before .before .pre) (c .before .before .before .loop .inv) (c .before .before .loop-test .taken) (c .before .front-length .ensures)
 
 -- src/firing.rt:115:25
 enum-known-found : tie.Need-enum-known-found Inv-loop μ-loop
@@ -48,18 +44,18 @@ enum-known-found c = search needs
 
 -- src/firing.rt:116:13
 returns : tie.Need-returns Inv-loop μ-loop
-returns c = found (walking-hit (c .before .before .before .before .before .before .before .before .before .before .before .before .pre) (c .before .before .before .before .before .before .before .loop .inv) (c .before .before .before .before .before .before .loop-test .taken) (c .before .before .before .before .before .front-length .ensures) (sought-at (c .before .before .before .fire-of .ensures) (c .before .found .given .1)))
+returns c = found (walking-hit (c .before .before .before .before .before .before .before .before .before .before .before .pre) (c .before .before .before .before .before .before .before .loop .inv) (c .before .before .before .before .before .before .loop-test .taken) (c .before .before .before .before .before .front-length .ensures) (sought-at (c .before .before .before .fire-of .ensures) (c .before .found .given .1)))
 
 enum-told : tie.Need-enum-told Inv-loop μ-loop
 enum-told c = search needs
 
 -- src/firing.rt:118:16
 sub-rest : tie.Need-sub-rest Inv-loop μ-loop
-sub-rest c = omega (arith, walking-long (c .before .before .before .before .before .before .before .before .before .before .before .pre) (c .before .before .before .before .before .before .loop .inv) (c .before .before .before .before .before .loop-test .taken) (c .before .before .before .before .front-length .ensures))
+sub-rest c = omega (arith, walking-long (c .before .before .before .before .before .before .before .before .before .before .pre) (c .before .before .before .before .before .before .loop .inv) (c .before .before .before .before .before .loop-test .taken) (c .before .before .before .before .front-length .ensures))
 
 -- src/firing.rt:118:16
 part-rest-start : tie.Need-part-rest-start Inv-loop μ-loop
-part-rest-start c = omega (arith, walking-long (c .before .before .before .before .before .before .before .before .before .before .before .pre) (c .before .before .before .before .before .before .loop .inv) (c .before .before .before .before .before .loop-test .taken) (c .before .before .before .before .front-length .ensures))
+part-rest-start c = omega (arith, walking-long (c .before .before .before .before .before .before .before .before .before .before .pre) (c .before .before .before .before .before .before .loop .inv) (c .before .before .before .before .before .loop-test .taken) (c .before .before .before .before .front-length .ensures))
 
 -- src/firing.rt:118:16
 part-rest-end : tie.Need-part-rest-end Inv-loop μ-loop
@@ -75,11 +71,11 @@ loop-less c = omega arith
 
 -- src/firing.rt:112:5
 loop-again : tie.Need-loop-again Inv-loop μ-loop
-loop-again c = walking-next (c .before .before .before .before .before .before .before .before .before .before .before .before .pre) (c .before .before .before .before .before .before .before .loop .inv) (c .before .before .before .before .before .before .loop-test .taken) (c .before .before .before .before .before .front-length .ensures) (sought-none (c .before .before .before .fire-of .ensures) (c .before .enum-told .given .1)) refl
+loop-again c = walking-next (c .before .before .before .before .before .before .before .before .before .before .before .pre) (c .before .before .before .before .before .before .before .loop .inv) (c .before .before .before .before .before .before .loop-test .taken) (c .before .before .before .before .before .front-length .ensures) (sought-none (c .before .before .before .fire-of .ensures) (c .before .enum-told .given .1)) refl
 
 -- src/firing.rt:106:1
 returns-2 : tie.Need-returns-2 Inv-loop μ-loop
-returns-2 c = missed (walking-done (c .before .before .before .before .before .before .pre) (c .before .loop .inv) (search needs))
+returns-2 c = missed (walking-done (c .before .before .before .before .before .pre) (c .before .loop .inv) (search needs))
 
 pub fire-in-spec : {M : Type 1} → statement M
 fire-in-spec =
@@ -87,7 +83,6 @@ fire-in-spec =
     (tie.spec
     Inv-loop
     μ-loop
-    record-at-requires
     loop-holds
     front-length-requires
     sub-fire-of

@@ -4,31 +4,34 @@ use mathlib.Core.Path.{refl, sym}
 use native.Mathlib.Omega.{arith}
 use borrow.Author.Needs.{needs}
 use Rattle.steps.specs.Firing.{sought-at, sought-none}
-use Rattle.steps.specs.Finding.{Taking, taking-start, taking-keys, taking-room, taking-next, taking-none, taking-end}
+use Rattle.steps.specs.Finding.{Taking, search-part, found-part, taking-start, taking-keys, taking-room, taking-next, taking-none, taking-end}
 use Rattle.steps.proofs.search.find_steps.Statement.{statement}
 use Rattle.steps.proofs.search.find_steps.Tie as tie
 
 abbrev Inv-loop : tie.InvT-loop
-Inv-loop profile labels keys asked lines t u₀ count₀ steps₀ u count steps = Taking profile labels keys asked t u count steps
+Inv-loop profile labels keys asked part lines t u₀ count₀ steps₀ u count steps = Taking part keys asked t u count steps
 
 abbrev μ-loop : tie.MeasureT-loop
-μ-loop profile labels keys asked lines t u₀ count₀ steps₀ u count steps = t - u
+μ-loop profile labels keys asked part lines t u₀ count₀ steps₀ u count steps = t - u
+
+record-at-requires : tie.Need-record-at-requires Inv-loop μ-loop
+record-at-requires c κs = search needs
 
 -- src/search.rt:38:17
 draw-requires : tie.Need-draw-requires Inv-loop μ-loop
-draw-requires c κs = c .before .before .pre .asked
+draw-requires c κs = c .before .before .before .pre .asked
 
 -- src/search.rt:39:9
 chain-end-requires : tie.Need-chain-end-requires Inv-loop μ-loop
-chain-end-requires c κs = c .before .before .before .pre .asked .isKey
+chain-end-requires c κs = c .before .before .before .before .pre .asked .isKey
 
 -- src/search.rt:40:9
 context-requires : tie.Need-context-requires Inv-loop μ-loop
-context-requires c κs = c .before .before .before .before .pre .asked .isKey
+context-requires c κs = c .before .before .before .before .before .pre .asked .isKey
 
 -- src/search.rt:50:5
 loop-holds : tie.Need-loop-holds Inv-loop μ-loop
-loop-holds c = taking-start (c .before .before .before .before .before .pre) (c .before .chain-end .ensures) (c .context .ensures) refl
+loop-holds c = taking-start (search-part (c .before .before .before .record-at .ensures) (c .before .before .before .before .before .before .pre)) (c .before .chain-end .ensures) (c .context .ensures) refl
 
 -- src/search.rt:51:59
 slice-aggregate-fire-in : tie.Need-slice-aggregate-fire-in Inv-loop μ-loop
@@ -36,7 +39,7 @@ slice-aggregate-fire-in c = sym (c .before .before .before .before .before .draw
 
 -- src/search.rt:51:13
 fire-in-requires : tie.Need-fire-in-requires Inv-loop μ-loop
-fire-in-requires c κs = taking-keys (c .before .before .before .before .before .before .before .before .pre) (c .before .before .loop .inv) (c .before .loop-test .taken) (c .before .before .before .before .before .draw .ensures)
+fire-in-requires c κs = taking-keys (search-part (c .before .before .before .before .before .before .record-at .ensures) (c .before .before .before .before .before .before .before .before .before .pre)) (c .before .before .loop .inv) (c .before .loop-test .taken) (c .before .before .before .before .before .draw .ensures)
 
 -- src/search.rt:52:22
 enum-known-found : tie.Need-enum-known-found Inv-loop μ-loop
@@ -48,19 +51,19 @@ enum-told c = search needs
 
 -- src/search.rt:53:13
 returns : tie.Need-returns Inv-loop μ-loop
-returns c = taking-none (c .before .before .before .before .before .before .before .before .before .before .before .pre) (c .before .before .before .before .before .loop .inv) (c .before .before .before .before .loop-test .taken) (sought-none (c .before .before .fire-in .ensures) (c .enum-told .given .1))
+returns c = found-part (c .before .before .before .before .before .before .before .before .before .record-at .ensures) (taking-none (search-part (c .before .before .before .before .before .before .before .before .before .record-at .ensures) (c .before .before .before .before .before .before .before .before .before .before .before .before .pre)) (c .before .before .before .before .before .loop .inv) (c .before .before .before .before .loop-test .taken) (sought-none (c .before .before .fire-in .ensures) (c .enum-told .given .1)))
 
 -- src/search.rt:55:9
 mul-steps : tie.Need-mul-steps Inv-loop μ-loop
-mul-steps c = omega (arith, taking-room (c .before .before .before .before .before .before .before .before .before .before .before .before .pre) (c .before .before .before .before .before .before .loop .inv) (c .before .before .before .before .before .loop-test .taken))
+mul-steps c = omega (arith, taking-room (search-part (c .before .before .before .before .before .before .before .before .before .before .record-at .ensures) (c .before .before .before .before .before .before .before .before .before .before .before .before .before .pre)) (c .before .before .before .before .before .before .loop .inv) (c .before .before .before .before .before .loop-test .taken))
 
 -- src/search.rt:55:9
 array-set-from-steps : tie.Need-array-set-from-steps Inv-loop μ-loop
-array-set-from-steps c = taking-room (c .before .before .before .before .before .before .before .before .before .before .before .before .pre) (c .before .before .before .before .before .before .loop .inv) (c .before .before .before .before .before .loop-test .taken)
+array-set-from-steps c = taking-room (search-part (c .before .before .before .before .before .before .before .before .before .before .record-at .ensures) (c .before .before .before .before .before .before .before .before .before .before .before .before .before .pre)) (c .before .before .before .before .before .before .loop .inv) (c .before .before .before .before .before .loop-test .taken)
 
 -- src/search.rt:56:9
 add-count : tie.Need-add-count Inv-loop μ-loop
-add-count c = omega (arith, taking-room (c .before .before .before .before .before .before .before .before .before .before .before .before .pre) (c .before .before .before .before .before .before .loop .inv) (c .before .before .before .before .before .loop-test .taken))
+add-count c = omega (arith, taking-room (search-part (c .before .before .before .before .before .before .before .before .before .before .record-at .ensures) (c .before .before .before .before .before .before .before .before .before .before .before .before .before .pre)) (c .before .before .before .before .before .before .loop .inv) (c .before .before .before .before .before .loop-test .taken))
 
 -- src/search.rt:57:9
 least-requires : tie.Need-least-requires Inv-loop μ-loop
@@ -72,11 +75,11 @@ loop-less c = omega (arith, c .least .ensures, sought-at (c .before .before .bef
 
 -- src/search.rt:50:5
 loop-again : tie.Need-loop-again Inv-loop μ-loop
-loop-again c = taking-next (c .before .before .before .before .before .before .before .before .before .before .before .before .before .pre) (c .before .before .before .before .before .before .before .loop .inv) (c .before .before .before .before .before .before .loop-test .taken) (sought-at (c .before .before .before .before .fire-in .ensures) (c .before .before .found .given .1)) (c .least .ensures)
+loop-again c = taking-next (search-part (c .before .before .before .before .before .before .before .before .before .before .before .record-at .ensures) (c .before .before .before .before .before .before .before .before .before .before .before .before .before .before .pre)) (c .before .before .before .before .before .before .before .loop .inv) (c .before .before .before .before .before .before .loop-test .taken) (sought-at (c .before .before .before .before .fire-in .ensures) (c .before .before .found .given .1)) (c .least .ensures)
 
 -- src/search.rt:34:1
 returns-2 : tie.Need-returns-2 Inv-loop μ-loop
-returns-2 c = taking-end (c .before .before .before .before .before .before .before .pre) (c .before .loop .inv) (search needs)
+returns-2 c = found-part (c .before .before .before .before .before .record-at .ensures) (taking-end (search-part (c .before .before .before .before .before .record-at .ensures) (c .before .before .before .before .before .before .before .before .pre)) (c .before .loop .inv) (search needs))
 
 pub find-steps-spec : {M : Type 1} → statement M
 find-steps-spec =
@@ -84,6 +87,7 @@ find-steps-spec =
     (tie.spec
     Inv-loop
     μ-loop
+    record-at-requires
     draw-requires
     chain-end-requires
     context-requires
