@@ -7,16 +7,12 @@ use lib.ListN.{length, drop, length-append}
 use Rattle.meaning.specs.Refusals.{Refusal, sound, firstRefusal, profileRefusal, treeRefusal, nodesIn, answerRefusal}
 use Rattle.meaning.specs.Listing.{block}
 use Rattle.meaning.specs.Operations.{Answer, Lists, Unless, choose, refusedBy, filled, listed, labelsIn}
-use Rattle.theory_operations.specs.Refusing.{unless-sound, unless-refused, sound-more, sound-end, first-passes, first-stops, answer-small, answer-large, profile-settled, tree-settled, first-named, sound-number}
+use Rattle.theory_operations.specs.Refusing.{unless-small, unless-sound, unless-refused, sound-more, sound-end, first-passes, first-stops, answer-large, profile-settled, tree-settled, first-named, sound-number}
 
 module _ (profile tree : List ℕ) (k : ℕ) (buffer : List ℕ) where
   pub list-small : length buffer < 65536 → Lists profile tree k buffer (refusedBy (record { number = 14; input = 4; place = 0 }) buffer)
   unfolding Lists
-  list-small h =
-      let e = answer-small buffer h in
-      unless-refused _ buffer _ _
-      (first-stops (answerRefusal buffer) _ (λ z. let n : 14 ≡ 0 = sym (ap (λ (r : Refusal). r .number) e) ∙ z in omega arith) ∙ e)
-      (omega arith)
+  list-small h = unless-small _ buffer _ h
 
   module _ (room : 65536 ≤ length buffer) where
     pub list-profile : (r : Refusal) → r ≡ profileRefusal profile → 0 < r .input → Lists profile tree k buffer (refusedBy r buffer)

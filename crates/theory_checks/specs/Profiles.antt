@@ -7,16 +7,12 @@ use lib.ListN.{length, drop}
 use Rattle.meaning.specs.Records.{recordBody}
 use Rattle.meaning.specs.Refusals.{Refusal, sound, firstRefusal, profileRefusal, answerRefusal}
 use Rattle.meaning.specs.Operations.{Answer, Rewrites, refusedBy, filled, rewritten, bodyAt, orNothing, recordsFrom}
-use Rattle.theory_operations.specs.Refusing.{unless-sound, unless-refused, sound-more, sound-end, first-passes, first-stops, answer-small, answer-large, profile-settled, named-refuses, first-named, sound-number}
+use Rattle.theory_operations.specs.Refusing.{unless-small, unless-sound, unless-refused, sound-more, sound-end, first-passes, first-stops, answer-large, profile-settled, named-refuses, first-named, sound-number}
 
 -- 14, before all else
 pub rewrite-small : (profile buffer : List ℕ) → length buffer < 65536 → Rewrites profile buffer (refusedBy (record { number = 14; input = 4; place = 0 }) buffer)
 unfolding Rewrites
-rewrite-small profile buffer h =
-    let e = answer-small buffer h in
-    unless-refused _ buffer _ _
-    (first-stops (answerRefusal buffer) _ (λ z. let n : 14 ≡ 0 = sym (ap (λ (r : Refusal). r .number) e) ∙ z in omega arith) ∙ e)
-    (omega arith)
+rewrite-small profile buffer h = unless-small _ buffer _ h
 
 -- the profile's own refusal, which names input 1
 pub rewrite-refused : (profile buffer : List ℕ) (r : Refusal) → 65536 ≤ length buffer → r ≡ profileRefusal profile → 0 < r .input

@@ -10,7 +10,7 @@ use Rattle.meaning.specs.Refusals
 use Rattle.meaning.specs.Refusals.{Refusal, sound, profileRefusal, questionRefusal, questionIn, answerRefusal}
 use Rattle.meaning.specs.Pattern.{IsU, tOf, writtenTree}
 use Rattle.meaning.specs.Operations.{Decides, refusedBy, filled, implied, notImplied, labelsIn, keysIn}
-use Rattle.theory_operations.specs.Refusing.{unless-sound, unless-refused, sound-more, sound-end, first-passes, first-stops, answer-small, answer-large, profile-settled, question-settled, first-named, sound-number}
+use Rattle.theory_operations.specs.Refusing.{unless-small, unless-sound, unless-refused, sound-more, sound-end, first-passes, first-stops, answer-large, profile-settled, question-settled, first-named, sound-number}
 use Rattle.theory_derive.specs.Spots.{Taken, Chain}
 use Rattle.theory_decide.specs.Implied.{proofBytesOf, implied-written}
 use Rattle.theory_decide.specs.NotImplied.{not-implied-written}
@@ -18,11 +18,7 @@ use Rattle.theory_decide.specs.NotImplied.{not-implied-written}
 module _ (profile question buffer : List ℕ) where
   pub decide-small : length buffer < 65536 → Decides profile question buffer (refusedBy (record { number = 14; input = 4; place = 0 }) buffer)
   unfolding Decides
-  decide-small h =
-      let e = answer-small buffer h in
-      unless-refused _ buffer _ _
-      (first-stops (answerRefusal buffer) _ (λ z. let n : 14 ≡ 0 = sym (ap (λ (r : Refusal). r .number) e) ∙ z in omega arith) ∙ e)
-      (omega arith)
+  decide-small h = unless-small _ buffer _ h
 
   module _ (room : 65536 ≤ length buffer) where
     pub decide-profile : (r : Refusal) → r ≡ profileRefusal profile → 0 < r .input → Decides profile question buffer (refusedBy r buffer)

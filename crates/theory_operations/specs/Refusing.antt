@@ -106,3 +106,11 @@ first-named r s rs settled e named = first-stops s rs (named-refuses r s settled
 -- a sound input is passed over
 pub sound-number : {s : Refusal} → sound ≡ s → s .number ≡ 0
 sound-number e = ap (λ (x : Refusal). x .number) (sym e)
+
+-- 14, before all else
+pub unless-small : (rs : List Refusal) (buffer : List ℕ) (Q : Answer → Type 0) → length buffer < 65536
+    → Unless (answerRefusal buffer ∷ rs) buffer Q (refusedBy (record { number = 14; input = 4; place = 0 }) buffer)
+unless-small rs buffer Q h =
+    let e = answer-small buffer h in
+    unless-refused (answerRefusal buffer ∷ rs) buffer Q (record { number = 14; input = 4; place = 0 })
+    (first-stops (answerRefusal buffer) rs (λ z. let n : 14 ≡ 0 = sym (ap (λ (r : Refusal). r .number) e) ∙ z in omega arith) ∙ e) (omega arith)
