@@ -3,9 +3,11 @@
 //! differential cases SEED COUNT            the stream that the program `replay` reads
 //! differential answers SEED COUNT [LINE]   what the reference answers, as `replay` would
 //! differential compare SEED COUNT [LINE]   reads answers on standard input, names the first that
-//!                                          differ, counts, and fails if any does
+//!                                          differ, counts, and fails if any does, or if an operation
+//!                                          that `replay` has is answered `not here`
 //! differential self SEED COUNT [LINE]      what must hold within the reference itself
-//! differential lines                       the wrong lines that LINE can choose
+//! differential lines                       the wrong lines that LINE can choose, each with `here` where it
+//!                                          changes answers of an operation that `replay` has, else `later`
 //!
 //! COUNT random cases follow the fixed ones. reference/stream.rs has the format.
 mod reference;
@@ -22,6 +24,11 @@ use std::collections::BTreeMap;
 use std::io::{Read, Write};
 
 const SHOWN: usize = 5;
+
+/// The operations that the program `replay` has: each of their cases is compared. Those of another
+/// operation may all be answered `not here`; they are counted apart and compared with nothing.
+const PRESENT: [u8; 3] = [REWRITE, BODY, INCLUDE];
+const NOT_HERE: &str = "not here";
 
 fn hex(bytes: &[u8]) -> String {
     let shown: Vec<String> = bytes.iter().take(400).map(|byte| format!("{:02x}", byte)).collect();
@@ -54,36 +61,94 @@ fn print_counts(counts: &BTreeMap<String, usize>) {
     println!("{}", list.join(" · "));
 }
 
-fn compare(cases: &[Case], stream: &[u8]) -> bool {
-    let mut rest = stream;
-    let mut counts: BTreeMap<String, usize> = BTreeMap::new();
-    let mut differing = 0;
-    for (number, case) in cases.iter().enumerate() {
-        let found = read_answer(rest);
-        match &found {
-            Some((answer, after)) if is_right(case, answer) => {
-                *counts.entry(outcome(case, answer)).or_insert(0) += 1;
-                rest = after;
+/// What a comparison saw, by operation.
+#[derive(Default)]
+struct Tally {
+    outcomes: BTreeMap<String, usize>,
+    refusals: BTreeMap<String, usize>,
+    agreeing: [usize; OPERATIONS.len()],
+    not_here: [usize; OPERATIONS.len()],
+    differing: [usize; OPERATIONS.len()],
+}
+
+fn sum(counts: &[usize]) -> usize {
+    counts.iter().sum()
+}
+
+fn print_operations(title: &str, counts: &[usize]) {
+    let list: Vec<String> = (1..counts.len()).filter(|&at| counts[at] > 0).map(|at| format!("{} {}", OPERATIONS[at], counts[at])).collect();
+    println!("{}: {}", title, if list.is_empty() { "none".to_string() } else { list.join(", ") });
+}
+
+impl Tally {
+    /// Counts one answer, and says whether it is right or not here.
+    fn add(&mut self, case: &Case, found: Option<&Answer>) -> bool {
+        let operation = case.operation as usize;
+        match found {
+            Some(answer) if answer.line == NOT_HERE && !PRESENT.contains(&case.operation) => self.not_here[operation] += 1,
+            Some(answer) if is_right(case, answer) => {
+                self.agreeing[operation] += 1;
+                *self.outcomes.entry(outcome(case, answer)).or_insert(0) += 1;
+                if let Some(number) = answer.line.strip_prefix("refused ").and_then(|rest| rest.split(' ').next()) {
+                    *self.refusals.entry(format!("{:>2}", number)).or_insert(0) += 1;
+                }
             }
             _ => {
-                differing += 1;
-                if differing <= SHOWN {
-                    show(number, case, found.as_ref().map(|pair| &pair.0));
-                }
-                match found {
-                    Some((_, after)) => rest = after,
-                    None => break,
-                }
+                self.differing[operation] += 1;
+                return false;
             }
         }
+        true
     }
+
+    /// An operation that is present has cases; one that is not answers all of its cases or none.
+    fn faults(&self) -> usize {
+        let mut faults = 0;
+        for operation in 1..OPERATIONS.len() {
+            let answered = self.agreeing[operation] + self.differing[operation];
+            if PRESENT.contains(&(operation as u8)) && answered == 0 {
+                println!("{}: no case was answered", OPERATIONS[operation]);
+                faults += 1;
+            }
+            if answered > 0 && self.not_here[operation] > 0 {
+                println!("{}: some cases are answered and some are `{}`", OPERATIONS[operation], NOT_HERE);
+                faults += 1;
+            }
+        }
+        faults
+    }
+}
+
+fn compare(cases: &[Case], stream: &[u8]) -> bool {
+    let mut rest = stream;
+    let mut tally = Tally::default();
+    for (number, case) in cases.iter().enumerate() {
+        let found = read_answer(rest);
+        if let Some((_, after)) = &found {
+            rest = after;
+        }
+        let answer = found.map(|pair| pair.0);
+        if !tally.add(case, answer.as_ref()) && sum(&tally.differing) <= SHOWN {
+            show(number, case, answer.as_ref());
+        }
+        if answer.is_none() {
+            break;
+        }
+    }
+    let mut faults = tally.faults();
     if !rest.is_empty() {
         println!("{} bytes stand after the last answer", rest.len());
-        differing += 1;
+        faults += 1;
     }
-    print_counts(&counts);
-    println!("{} cases, {} differ", cases.len(), differing);
-    differing == 0
+    print_counts(&tally.outcomes);
+    print!("refusals: ");
+    print_counts(&tally.refusals);
+    print_operations("not here", &tally.not_here);
+    print_operations("differ", &tally.differing);
+    print_operations("agree", &tally.agreeing);
+    let (differing, not_here) = (sum(&tally.differing), sum(&tally.not_here));
+    println!("{} cases: {} agree, {} differ, {} not here", cases.len(), sum(&tally.agreeing), differing, not_here);
+    differing + faults == 0
 }
 
 /// What 01 promises of the operations together, held on the reference alone.
@@ -188,8 +253,9 @@ fn main() {
             is_right = consistency(seed, count);
         }
         _ => {
-            for (at, text) in reference::WRONG_LINES.iter().enumerate() {
-                println!("{} {}", at + 1, text);
+            for (at, (operations, text)) in reference::WRONG_LINES.iter().enumerate() {
+                let is_here = operations.iter().any(|operation| PRESENT.contains(operation));
+                println!("{} {} {}", at + 1, if is_here { "here" } else { "later" }, text);
             }
         }
     }
