@@ -1,0 +1,27 @@
+use Rattle.line_writing.specs.LineParts.{path-wrote}
+use borrow.Author.Needs.{needs}
+use Rattle.line_writing.proofs.put_path.Statement.{statement}
+use Rattle.line_writing.proofs.put_path.Tie as tie
+use Rattle.line_writing.proofs.put_path.Reads as reads
+use Rattle.line_writing.proofs.put_path.Lts as lts
+use Rattle.line_writing.proofs.put.Reads as put-reads
+use Rattle.line_writing.proofs.put_number.Reads as put-number-reads
+
+-- src/lib.rt:62:9
+put-number-requires : tie.Need-put-number-requires
+put-number-requires c κs = search needs
+
+-- src/lib.rt:63:5
+put-requires : tie.Need-put-requires
+put-requires c κs = search needs
+
+-- src/lib.rt:58:1
+same-length : tie.Need-same-length
+same-length c = search needs
+
+-- src/lib.rt:58:1
+returns : tie.Need-returns
+returns c = search (path-wrote)
+
+pub put-path-spec : {M : Type 1} → statement M
+put-path-spec = tie.close (tie.spec put-number-requires put-requires same-length returns)

@@ -1,0 +1,155 @@
+// The bytes of one proof line, written into a lent buffer from a place on: document 01, "Records", kind 4. What stands before and behind stays.
+use shapes::bodies::LINE_KIND;
+use shapes::fields::BYTE;
+ghost use mathlib.Core.Path.{_≡_};
+ghost use mathlib.Core.Bool.{Bool, true};
+ghost use mathlib.Core.List.{List, [], _∷_, _++_};
+ghost use Prim.Native.Nat.{ℕ, _+_, _<_, _≤_};
+ghost use lib.ListN.{length};
+ghost use Rattle.meaning.specs.Paths.{norm};
+ghost use Rattle.meaning.specs.Records.{wordBytes, pathBytes, lineBytes};
+ghost use Rattle.shapes.specs.Parts.{pathsEnd, pathsOf};
+ghost use Rattle.theory_derive.specs.Written.{keyOf, twoLine};
+ghost use Rattle.line_writing.specs.Wrote.{Wrote};
+ghost use Rattle.line_writing.specs.Normals.{doubledAny};
+ghost use Rattle.line_writing.specs.LineParts.{Sized, lineHead, keyPart, LineFits, WroteLine};
+
+// The head of a record, the rule and two premises.
+const HEAD_AND_FIELDS: usize = 9;
+// The two lengths and the count inside a key body.
+const KEY_LENGTHS: usize = 3;
+// "In a proof line, C and T may have 32 symbols"
+const LINE_PATH: usize = 32;
+
+// The bytes as they are.
+pub fn put(out: &mut [u8], at: usize, bytes: &[u8]) -> usize
+    requires { ⌜ at + length (now bytes) ≤ length (now out) ⌝ }
+    ensures { λ r. ⌜ Wrote (now (out .entry)) (now (out .exit)) at (now (bytes .entry)) r ⌝ }
+{
+    let mut i = 0;
+    while i < bytes.len() {
+        out[at + i] = bytes[i];
+        i += 1;
+    }
+    at + i
+}
+
+// A number that fits a byte.
+pub fn put_number(out: &mut [u8], at: usize, n: usize) -> usize
+    requires { ⌜ (n < 256) × (at + 1 ≤ length (now out)) ⌝ }
+    ensures { λ r. ⌜ Wrote (now (out .entry)) (now (out .exit)) at (n ∷ []) r ⌝ }
+{
+    out[at] = n as u8;
+    at + 1
+}
+
+// "two bytes, little-endian"
+pub fn put_word(out: &mut [u8], at: usize, n: usize) -> usize
+    requires { ⌜ at + 2 ≤ length (now out) ⌝ }
+    ensures { λ r. ⌜ Sized (now (out .entry)) (now (out .exit)) at (wordBytes n) 2 r ⌝ }
+{
+    out[at] = (n % BYTE) as u8;
+    out[at + 1] = (n / BYTE % BYTE) as u8;
+    at + 2
+}
+
+// "length and symbols"
+pub fn put_path(out: &mut [u8], at: usize, path: &[u8]) -> usize
+    requires { ⌜ (length (now path) < 256) × (at + length (now path) + 1 ≤ length (now out)) ⌝ }
+    ensures { λ r. ⌜ Sized (now (out .entry)) (now (out .exit)) at (pathBytes (now (path .entry))) (length (now (path .entry)) + 1) r ⌝ }
+{
+    let next = put_number(out, at, path.len());
+    put(out, next, path)
+}
+
+// The any-path stands here and again behind.
+fn doubled(path: &[u8], i: usize) -> bool
+    requires { ⌜ i < length (now path) ⌝ }
+    ensures { λ r. ⌜ r ≡ doubledAny (now (path .entry)) i ⌝ }
+{
+    if path[i] != 0 {
+        return false;
+    }
+    if path.len() - i == 1 {
+        return false;
+    }
+    path[i + 1] == 0
+}
+
+// "Joining two paths removes doubled 0."
+pub fn put_normal(out: &mut [u8], at: usize, path: &[u8]) -> usize
+    requires { ⌜ at + length (now path) ≤ length (now out) ⌝ }
+    ensures { λ r. ⌜ Wrote (now (out .entry)) (now (out .exit)) at (norm (now (path .entry))) r ⌝ }
+{
+    let mut next = at;
+    let mut i = 0;
+    while i < path.len() {
+        if !doubled(path, i) {
+            out[next] = path[i];
+            next += 1;
+        }
+        i += 1;
+    }
+    next
+}
+
+// The record's length and kind, "rule (1), first premise (2), second premise (2)"
+fn put_head(
+    out: &mut [u8],
+    at: usize,
+    size: usize,
+    rule: usize,
+    first: usize,
+    second: usize,
+) -> usize
+    requires { ⌜ (rule < 256) × (at + 9 ≤ length (now out)) ⌝ }
+    ensures { λ r. ⌜ Sized (now (out .entry)) (now (out .exit)) at (lineHead size rule first second) 9 r ⌝ }
+{
+    let kind_at = put_word(out, at, size);
+    let rule_at = put_word(out, kind_at, LINE_KIND);
+    let first_at = put_number(out, rule_at, rule);
+    let second_at = put_word(out, first_at, first);
+    put_word(out, second_at, second)
+}
+
+// "length and symbols of C; of T; count of key paths; length and symbols of each"
+fn put_key(
+    out: &mut [u8],
+    at: usize,
+    context: &[u8],
+    target: &[u8],
+    count: usize,
+    paths: &[u8],
+) -> usize
+    requires { ⌜ (length (now context) < 256) × (length (now target) < 256) × (count < 256) × (at + length (now context) + length (now target) + length (now paths) + 3 ≤ length (now out)) ⌝ }
+    ensures { λ r. ⌜ Wrote (now (out .entry)) (now (out .exit)) at (keyPart (now (context .entry)) (now (target .entry)) count (now (paths .entry))) r ⌝ }
+{
+    let target_at = put_path(out, at, context);
+    let count_at = put_path(out, target_at, target);
+    let paths_at = put_number(out, count_at, count);
+    put(out, paths_at, paths)
+}
+
+// A proof line whose context and target are brought to normal form.
+pub fn write_line(
+    out: &mut [u8],
+    at: usize,
+    rule: usize,
+    first: usize,
+    second: usize,
+    context: &[u8],
+    target: &[u8],
+    count: usize,
+    paths: &[u8],
+) -> usize
+    requires { ⌜ LineFits (now out) at rule (now context) (now target) count (now paths) ⌝ }
+    ensures { λ r. ⌜ WroteLine (now (out .entry)) (now (out .exit)) at (lineBytes (twoLine rule first second (keyOf (now (context .entry)) (now (target .entry)) (pathsOf count (now (paths .entry)))))) r ⌝ }
+{
+    let mut c = [0u8; LINE_PATH];
+    let c_end = put_normal(&mut c, 0, context);
+    let mut t = [0u8; LINE_PATH];
+    let t_end = put_normal(&mut t, 0, target);
+    let size = HEAD_AND_FIELDS + KEY_LENGTHS + c_end + t_end + paths.len();
+    let next = put_head(out, at, size, rule, first, second);
+    put_key(out, next, &c[..c_end], &t[..t_end], count, paths)
+}

@@ -1,0 +1,47 @@
+// "list a block of a tree": profile as input 1, tree as input 3, block number, answer buffer.
+use answers::ANSWER_BYTES;
+use answers::Listing;
+use answers::Outcome;
+use answers::PROFILE;
+use answers::TREE_OR_PROOF;
+use answers::of_input;
+use answers::small_answer;
+use records::profile::read_profile;
+use tree_listing::put_block;
+use tree_records::tree::read_tree;
+ghost use Prim.Native.Nat.{ℕ, _≤_};
+ghost use mathlib.Core.List.{List};
+ghost use lib.ListN.{length};
+ghost use Rattle.meaning.specs.Operations.{Lists};
+ghost use Rattle.checks.specs.Found.{Ready, Tables};
+ghost use Rattle.answers.specs.Cases.{listingAnswer};
+
+// The answer for a tree under an accepted profile, of which only the class table is needed.
+fn list_tree(tree: &[u8], block: usize, answer: &mut [u8], classes: &[u8; 256]) -> Listing
+    requires { ⌜ Tables (now classes) × (65536 ≤ length (now answer)) ⌝ }
+    ensures { λ r. ⌜ ((profile : List ℕ) → Ready profile (now (classes .entry)) → Lists profile (now (tree .entry)) block (now (answer .entry)) (listingAnswer r (now (answer .exit)))) ⌝ }
+{
+    let judged = read_tree(tree, classes);
+    let outcome = of_input(judged, TREE_OR_PROOF);
+    match outcome {
+        Outcome::Refused(refusal) => Listing::Refused(refusal),
+        Outcome::Fine => Listing::Listed(put_block(answer, tree, classes, block)),
+    }
+}
+
+// Block k is lines 1,024k to 1,024k + 1,023 of the listing, past the end 0 bytes; every byte behind them stays, and a refusal changes none.
+pub fn list_block(profile: &[u8], tree: &[u8], block: usize, answer: &mut [u8]) -> Listing
+    ensures { λ r. ⌜ Lists (now (profile .entry)) (now (tree .entry)) block (now (answer .entry)) (listingAnswer r (now (answer .exit))) ⌝ }
+{
+    if answer.len() < ANSWER_BYTES {
+        return Listing::Refused(small_answer());
+    }
+    let read = read_profile(profile);
+    let judged = read.judged;
+    let classes = read.classes;
+    let outcome = of_input(judged, PROFILE);
+    match outcome {
+        Outcome::Refused(refusal) => Listing::Refused(refusal),
+        Outcome::Fine => list_tree(tree, block, answer, &classes),
+    }
+}

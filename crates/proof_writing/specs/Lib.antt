@@ -1,0 +1,7 @@
+-- The whole proof.
+pub mod Derived
+pub mod Sizes
+pub mod Ready
+pub mod Cited
+pub mod Whole
+pub mod Chained

@@ -1,0 +1,193 @@
+// The proof that the decider writes: ARGUMENT, section 5. "Take every remembered step, last first".
+use line_writing::put;
+use places::front_length;
+use places::record_at;
+use shapes::fields::HEAD_BYTES;
+use shapes::keys::context;
+use shapes::keys::path;
+use shapes::keys::target;
+use step_writing::branch::write_empty;
+use step_writing::branch::write_end;
+use step_writing::chain::write_chain;
+use step_writing::chain::write_opening;
+use step_writing::single::CONTEXT_TARGET;
+use step_writing::single::NO_NUMBER;
+use step_writing::single::holds_empty;
+use step_writing::single::write_of_key;
+use steps::firing::Taken;
+use steps::search::MOST_STEPS;
+ghost use mathlib.Core.Path.{_≡_};
+ghost use mathlib.Core.List.{[], _∷_};
+ghost use Prim.Native.Nat.{_+_, _≤_, _<_};
+ghost use lib.ListN.{length};
+ghost use Rattle.meaning.specs.Records.{keyIn};
+ghost use Rattle.theory_derive.specs.Spots.{lineOf};
+ghost use Rattle.theory_derive.specs.Written.{stepLines};
+ghost use Rattle.steps.specs.Finding.{stepsBelow};
+ghost use Rattle.steps.specs.Ranges.{stepOf};
+ghost use Rattle.line_writing.specs.Wrote.{Wrote};
+ghost use Rattle.step_writing.specs.Fits.{KeyBody};
+ghost use Rattle.step_writing.specs.Lines.{WroteLines};
+ghost use Rattle.proof_writing.specs.Ready.{AskedLine, OnLine, SpotReady, StepRoom, TakenReady, ProofReady};
+ghost use Rattle.proof_writing.specs.Sizes.{sizeOf};
+ghost use Rattle.proof_writing.specs.Cited.{stepOn, takenBy, firstLine, proofBy};
+
+// "epsilon: no premise; any key with empty target"
+const EPSILON: usize = 1;
+// How many lines a step has: from a chain node, with the empty path in S and without; from inside a branch.
+const CHAIN_EMPTY_LINES: usize = 8;
+
+const CHAIN_LINES: usize = 7;
+
+const BRANCH_EMPTY_LINES: usize = 7;
+
+const BRANCH_LINES: usize = 5;
+// "line j = C ++ T ++ P_j (at most 24 symbols)"
+const LINE_SYMBOLS: usize = 24;
+
+// Line j of the asked key.
+fn put_asked(line: &mut [u8], asked: &[u8], branch: usize) -> usize
+    requires { ⌜ AskedLine (now line) (now asked) branch ⌝ }
+    ensures { λ r. ⌜ Wrote (now (line .entry)) (now (line .exit)) 0 (lineOf (keyIn (now (asked .entry))) branch) r ⌝ }
+{
+    let target_at = put(line, 0, context(asked));
+    let path_at = put(line, target_at, target(asked));
+    put(line, path_at, path(asked, branch))
+}
+
+// The lines of a step whose line is given.
+fn write_on(
+    out: &mut [u8],
+    at: usize,
+    lines: usize,
+    line: &[u8],
+    asked: &[u8],
+    cited: &[u8],
+    key: usize,
+    node: usize,
+    spot: usize,
+) -> usize
+    requires { ⌜ OnLine (now out) at lines (now line) (now asked) (now cited) node spot ⌝ }
+    ensures { λ r. ⌜ WroteLines (now (out .entry)) (now (out .exit)) at (stepOn (now (line .entry)) (keyIn (now (asked .entry))) (keyIn (now (cited .entry))) key node spot lines) r ⌝ }
+{
+    let chain = context(asked).len() + target(asked).len();
+    let next = write_opening(out, at, lines, line, cited, key, node, spot);
+    if spot <= chain {
+        return write_chain(out, next, lines, line, chain, node, spot, asked, cited);
+    }
+    if holds_empty(asked) {
+        return write_empty(out, next, lines, line, chain, node, spot, asked, cited);
+    }
+    write_end(out, next, lines, line, chain, node, asked)
+}
+
+// The lines of a step with the cited key's body.
+fn write_step(
+    out: &mut [u8],
+    at: usize,
+    lines: usize,
+    asked: &[u8],
+    cited: &[u8],
+    key: usize,
+    node: usize,
+    branch: usize,
+    spot: usize,
+) -> usize
+    requires { ⌜ SpotReady (now asked) (now cited) node branch spot × StepRoom (now out) at lines ⌝ }
+    ensures { λ r. ⌜ WroteLines (now (out .entry)) (now (out .exit)) at (stepLines (keyIn (now (asked .entry))) (keyIn (now (cited .entry))) key node branch spot lines) r ⌝ }
+{
+    let mut line = [0u8; LINE_SYMBOLS];
+    let end = put_asked(&mut line, asked, branch);
+    write_on(out, at, lines, &line[..end], asked, cited, key, node, spot)
+}
+
+// The lines of a remembered step: "key number s stands at record labels + s".
+fn write_taken(
+    out: &mut [u8],
+    at: usize,
+    lines: usize,
+    profile: &[u8],
+    labels: usize,
+    asked: &[u8],
+    step: Taken,
+) -> usize
+    requires { ⌜ TakenReady (now profile) labels (now asked) (stepOf step) × StepRoom (now out) at lines ⌝ }
+    ensures { λ r. ⌜ WroteLines (now (out .entry)) (now (out .exit)) at (takenBy (now (profile .entry)) labels (keyIn (now (asked .entry))) (stepOf step) lines) r ⌝ }
+{
+    let rest = record_at(profile, labels + step.key);
+    let end = front_length(rest);
+    write_step(
+        out,
+        at,
+        lines,
+        asked,
+        &rest[HEAD_BYTES..end],
+        step.key,
+        step.node,
+        step.branch,
+        step.spot,
+    )
+}
+
+// How many lines a step has.
+fn step_size(asked: &[u8], spot: usize) -> usize
+    requires { ⌜ KeyBody (now asked) ⌝ }
+    ensures { λ r. ⌜ r ≡ sizeOf (keyIn (now (asked .entry))) spot ⌝ }
+{
+    let chain = context(asked).len() + target(asked).len();
+    let empty = holds_empty(asked);
+    if spot <= chain {
+        if empty {
+            return CHAIN_EMPTY_LINES;
+        }
+        return CHAIN_LINES;
+    }
+    if empty {
+        return BRANCH_EMPTY_LINES;
+    }
+    BRANCH_LINES
+}
+
+// "K n is rule 1, the first line (written always ..)"
+fn write_first(out: &mut [u8], asked: &[u8]) -> usize
+    requires { ⌜ KeyBody (now asked) × (256 ≤ length (now out)) ⌝ }
+    ensures { λ r. ⌜ WroteLines (now (out .entry)) (now (out .exit)) 0 (firstLine (keyIn (now (asked .entry))) ∷ []) r ⌝ }
+{
+    let mut line = [0u8; LINE_SYMBOLS];
+    let front = context(asked);
+    let next = put(&mut line, 0, front);
+    let end = put(&mut line, next, target(asked));
+    write_of_key(out, 0, EPSILON, NO_NUMBER, &line[..end], &front[..0], asked)
+}
+
+// The proof, from the front of the buffer; the bytes used.
+pub fn write_proof(
+    out: &mut [u8],
+    profile: &[u8],
+    labels: usize,
+    asked: &[u8],
+    steps: [Taken; MOST_STEPS],
+    count: usize,
+) -> usize
+    requires { ⌜ ProofReady (now out) (now profile) labels (now asked) steps count ⌝ }
+    ensures { λ r. ⌜ WroteLines (now (out .entry)) (now (out .exit)) 0 (proofBy (now (profile .entry)) labels (keyIn (now (asked .entry))) (stepsBelow steps count)) r ⌝ }
+{
+    let mut at = write_first(out, asked);
+    let mut lines = 1;
+    let mut left = count;
+    while 0 < left {
+        left -= 1;
+        let step = steps[left];
+        at = write_taken(out, at, lines, profile, labels, asked, step);
+        lines += step_size(asked, step.spot);
+    }
+    write_of_key(
+        out,
+        at,
+        CONTEXT_TARGET,
+        lines - 1,
+        context(asked),
+        target(asked),
+        asked,
+    )
+}

@@ -1,0 +1,73 @@
+use Rattle.step_writing.specs.StepLines.{unite-fits, united-yes, united-no}
+use Rattle.step_writing.specs.Fits.{body-set}
+use native.Mathlib.Omega.{arith}
+use borrow.Author.Needs.{needs}
+use Rattle.step_writing.proofs.chain.united_set.Statement.{statement}
+use Rattle.step_writing.proofs.chain.united_set.Tie as tie
+use Rattle.step_writing.proofs.chain.united_set.Reads as reads
+use Rattle.step_writing.proofs.chain.united_set.Lts as lts
+use Rattle.line_writing.proofs.put.Reads as put-reads
+use Rattle.set_writing.proofs.unite_beyond.Reads as unite-beyond-reads
+use Rattle.shapes.proofs.keys.count.Reads as count-reads
+use Rattle.shapes.proofs.keys.paths.Reads as paths-reads
+use Rattle.step_writing.proofs.single.holds_empty.Reads as holds-empty-reads
+
+-- src/chain.rt:50:9
+count-requires : tie.Need-count-requires
+count-requires c κs = search needs
+
+-- src/chain.rt:51:9
+paths-requires : tie.Need-paths-requires
+paths-requires c κs = search needs
+
+-- src/chain.rt:52:8
+holds-empty-requires : tie.Need-holds-empty-requires
+holds-empty-requires c κs = search needs
+
+-- src/chain.rt:53:55
+count-requires-2 : tie.Need-count-requires-2
+count-requires-2 c κs = search needs
+
+-- src/chain.rt:53:69
+paths-requires-2 : tie.Need-paths-requires-2
+paths-requires-2 c κs = search needs
+
+-- src/chain.rt:53:9
+unite-beyond-requires : tie.Need-unite-beyond-requires
+unite-beyond-requires c κs = unite-fits (c .before .before .before .before .before .before .before .before .before .before .pre .0) (c .before .before .before .before .before .before .before .before .before .before .pre .1) (c .before .before .before .before .before .paths .ensures) (c .before .before .before .before .before .before .count .ensures .0) (c .paths2 .ensures) (c .before .count2 .ensures .0) (c .before .before .before .before .before .before .before .before .before .before .pre .2)
+
+-- src/chain.rt:53:9
+same-length : tie.Need-same-length
+same-length c = search needs
+
+-- src/chain.rt:53:9
+returns : tie.Need-returns
+returns c = united-yes (c .before .before .before .before .before .before .before .before .before .before .before .before .before .pre .0) (c .before .before .before .before .before .before .before .before .before .before .before .before .before .pre .1) (c .before .before .before .before .before .before .before .before .paths .ensures) (c .before .before .before .before .before .before .before .before .before .count .ensures .0) _ (c .before .before .before .paths2 .ensures) (c .before .before .before .before .count2 .ensures .0) (c .before .before .before .before .before .before .before .holds-empty .ensures) (c .before .before .before .before .before .before .if1 .taken) (c .before .before .unite-beyond .ensures)
+
+-- src/chain.rt:55:9
+put-requires : tie.Need-put-requires
+put-requires c κs = let s = body-set (c .before .before .before .before .before .before .before .before .pre .0) (c .before .before .before .paths .ensures) (c .before .before .before .before .count .ensures .0) in let l = s .short in let b = c .before .before .before .before .before .before .before .before .pre .2 in omega arith
+
+-- src/chain.rt:46:1
+same-length-2 : tie.Need-same-length-2
+same-length-2 c = search needs
+
+-- src/chain.rt:46:1
+returns-2 : tie.Need-returns-2
+returns-2 c = united-no (c .before .before .before .before .before .before .before .before .before .before .before .pre .0) (c .before .before .before .before .before .before .before .before .before .before .before .pre .1) (c .before .before .before .before .before .before .paths .ensures) (c .before .before .before .before .before .before .before .count .ensures .0) _ (c .before .before .before .before .before .holds-empty .ensures) (c .before .before .before .before .if1 .left) (c .before .before .put .ensures)
+
+pub united-set-spec : {M : Type 1} → statement M
+united-set-spec =
+    tie.close
+    (tie.spec
+    count-requires
+    paths-requires
+    holds-empty-requires
+    count-requires-2
+    paths-requires-2
+    unite-beyond-requires
+    same-length
+    returns
+    put-requires
+    same-length-2
+    returns-2)

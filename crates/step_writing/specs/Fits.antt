@@ -1,0 +1,104 @@
+-- What the writers of a step ask: the sizes of document 01 for keys, and room for a line.
+use Prim.Native.Nat.{ℕ, zero, suc, _+_, _-_, _*_, _<_, _≤_, min}
+use mathlib.Core.Path.{_≡_, refl, sym, _∙_, ap, ap₂, subst}
+use mathlib.Core.Bool.{Bool, true, false}
+use mathlib.Core.List.{List, [], _∷_, _++_, map, flatten}
+use native.Mathlib.Omega.{arith}
+use lib.ListN.{length, take, drop, length-take, length-drop}
+use Rattle.meaning.specs.Limits.{inProfile}
+use Rattle.meaning.specs.Lists.{Each, end, also}
+use Rattle.meaning.specs.Paths.{Label}
+use Rattle.meaning.specs.Keys.{Key}
+use Rattle.meaning.specs.Records.{readKey, keyIn, isSome, pathBytes}
+use Rattle.shapes.specs.Parts.{pathsEnd, pathsOf}
+use Rattle.shapes.specs.KeyPaths.{AtPath}
+use Rattle.theory_paths.specs.Bools.{Each-of}
+use Rattle.theory_paths.specs.Good.{GoodKey, context-length, target-length, key-path-length, paths-within}
+use Rattle.theory_derive.specs.Bytes.{flatten-length}
+use Rattle.theory_derive.specs.Logic.{each-imp}
+use Rattle.line_writing.specs.LineParts.{LineFits, paths-bytes}
+
+-- "a path of 8 symbols and 4 key paths in profile and question"
+pub record KeyFits (k : Key) : Type 0 where
+  pub context-short : length (k .context) ≤ 8
+  pub target-short : length (k .target) ≤ 8
+  pub few : length (k .paths) ≤ 4
+  pub short : Each (λ (p : List ℕ). length p ≤ 8) (k .paths)
+
+pub key-fits : (labels : List Label) (k : Key) → GoodKey labels inProfile k → KeyFits k
+key-fits labels k g =
+    record {
+      context-short = context-length labels inProfile k g;
+      target-short = target-length labels inProfile k g;
+      few = paths-within labels inProfile k g;
+      short = Each-of (k .paths) (λ p m. key-path-length labels inProfile k g p m);
+    }
+
+-- a key body that is read whole
+pub record KeyBody (body : List ℕ) : Type 0 where
+  pub reads : isSome (readKey body) ≡ true
+  pub fits : KeyFits (keyIn body)
+
+-- its key paths in place
+pub record BodySet (body : List ℕ) (count : ℕ) (bytes : List ℕ) : Type 0 where
+  pub ends : pathsEnd count bytes ≡ true
+  pub are : pathsOf count bytes ≡ keyIn body .paths
+  pub few : count ≤ 4
+  pub short : length bytes ≤ 36
+
+path-short : (p : List ℕ) → length p ≤ 8 → length (pathBytes p) ≤ 9
+unfolding pathBytes
+path-short p h = omega arith
+
+pub body-set : {body bytes : List ℕ} {count : ℕ} → KeyBody body → AtPath (keyIn body .paths) 0 bytes → count ≡ length (keyIn body .paths)
+    → BodySet body count bytes
+body-set {body} {bytes} {count} k a n =
+    let ps = keyIn body .paths in
+    let m : length ps - 0 ≡ count = omega arith in
+    let e : pathsEnd count bytes ≡ true = ap (λ (x : ℕ). pathsEnd x bytes) (sym m) ∙ a .ends in
+    let r : pathsOf count bytes ≡ ps = ap (λ (x : ℕ). pathsOf x bytes) (sym m) ∙ a .are in
+    let f = k .fits .few in
+    let l = flatten-length pathBytes 9 (each-imp path-short (k .fits .short)) in
+    let b : length (flatten (map pathBytes ps)) ≡ length bytes = ap length (ap (λ (x : List (List ℕ)). flatten (map pathBytes x)) (sym r) ∙ paths-bytes count bytes e) in
+    record { ends = e; are = r; few = omega arith; short = omega arith }
+
+-- room for one line, whose context and target are parts of an asked line
+pub record LineRoom (out : List ℕ) (at : ℕ) (context target : List ℕ) : Type 0 where
+  pub context-short : length context ≤ 16
+  pub target-short : length target ≤ 24
+  pub room : at + 256 ≤ length out
+
+pub record OfKeyFits (out : List ℕ) (at rule : ℕ) (context target body : List ℕ) : Type 0 where
+  pub rule-fits : rule < 256
+  pub line : LineRoom out at context target
+  pub key : KeyBody body
+
+pub line-room : {out : List ℕ} {at : ℕ} (line : List ℕ) (i a b : ℕ) → i ≤ 16 → b ≤ 24 → at + 256 ≤ length out
+    → LineRoom out at (take i line) (take (b - a) (drop a line))
+line-room line i a b h k r =
+    record {
+      context-short = let e = length-take i line in omega arith;
+      target-short = let e = length-take (b - a) (drop a line) in omega arith;
+      room = r;
+    }
+
+pub line-fits : {out context target paths : List ℕ} {at rule count : ℕ} → LineRoom out at context target → rule < 256 → count < 256
+    → length paths ≤ 204 → pathsEnd count paths ≡ true → LineFits out at rule context target count paths
+line-fits l r c p e =
+    let a = l .context-short in
+    let b = l .target-short in
+    record {
+      rule-fits = r;
+      count-fits = c;
+      context-short = omega arith;
+      target-short = omega arith;
+      short = omega arith;
+      room = l .room;
+      ends = e;
+    }
+
+pub record FrontRoom (front : List ℕ) (many : ℕ) (set : List ℕ) : Type 0 where
+  pub front-short : length front ≤ 16
+  pub few : many ≤ 8
+  pub short : length set ≤ 72
+  pub ends : pathsEnd many set ≡ true

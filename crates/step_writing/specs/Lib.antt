@@ -1,0 +1,6 @@
+-- The lines of one step.
+pub mod Fits
+pub mod Lines
+pub mod Singles
+pub mod StepFits
+pub mod StepLines
