@@ -1,11 +1,12 @@
-// `checker proof PROFILE QUESTION PROOF`: prints `accepted`, or `refused` with number, input and record. What is decided stands in
-// `proof_checks`; an unreadable file counts as empty.
+// `checker proof PROFILE QUESTION PROOF` and `checker tree PROFILE QUESTION TREE`: print `accepted`, or `refused` with number, input and record. What
+// is decided stands in `proof_checks` and `tree_checks`; an unreadable file counts as empty. No decider is reached.
 use answers::Checking;
 use files::is_word;
 use files::print;
 use files::print_refusal;
 use files::read_argument;
 use proof_checks::check_proof;
+use tree_checks::check_counterexample;
 
 // Of a file is read one byte more than its limit, so that it is refused by size; of a question two records of the greatest length and a byte.
 const PROFILE_READ: usize = 16385;
@@ -13,6 +14,8 @@ const PROFILE_READ: usize = 16385;
 const QUESTION_READ: usize = 131071;
 
 const PROOF_READ: usize = 65537;
+
+const TREE_READ: usize = 36865;
 
 // The program's own name, the word and the three files
 const WORDS: usize = 5;
@@ -34,8 +37,18 @@ fn proof() {
     print_checking(check_proof(&profile[..n], &question[..m], &lines[..k]));
 }
 
+fn tree() {
+    let mut profile = [0u8; PROFILE_READ];
+    let mut question = [0u8; QUESTION_READ];
+    let mut nodes = [0u8; TREE_READ];
+    let n = read_argument(2, &mut profile);
+    let m = read_argument(3, &mut question);
+    let k = read_argument(4, &mut nodes);
+    print_checking(check_counterexample(&profile[..n], &question[..m], &nodes[..k]));
+}
+
 fn usage() {
-    print(b"usage: checker proof PROFILE QUESTION PROOF\n");
+    print(b"usage: checker proof PROFILE QUESTION PROOF | checker tree PROFILE QUESTION TREE\n");
 }
 
 fn main() {
@@ -45,6 +58,10 @@ fn main() {
     }
     if is_word(1, b"proof") {
         proof();
+        return;
+    }
+    if is_word(1, b"tree") {
+        tree();
         return;
     }
     usage();

@@ -50,7 +50,7 @@ pub fn rewrite(profile: &[u8], answer: &mut [u8]) -> Rewriting
 }
 
 // The body of the record at the front of what is left of a checked profile; nothing where nothing is left.
-fn body_at_front(rest: &[u8]) -> &[u8]
+pub fn body_at_front(rest: &[u8]) -> &[u8]
     ensures { λ r. ⌜ now r ≡ recordBody (now (rest .entry)) ⌝ }
 {
     if rest.len() < HEAD_BYTES {

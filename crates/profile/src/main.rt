@@ -1,6 +1,7 @@
-// The program `profile`: rewrite a profile, give the body of a record, test inclusion of two paths. Thin over the public operations: it reads files,
+// The program `profile`: rewrite a profile, give the body of a record, test inclusion of two paths, test whether a tree keeps a key. Thin over the public operations: it reads files,
 // calls one operation and prints its answer.
 use answers::Inclusion;
+use answers::Keeping;
 use answers::Rewriting;
 use files::Number;
 use files::is_word;
@@ -18,9 +19,13 @@ const PATH_ROOM: usize = 33;
 
 const ANSWER_ROOM: usize = 65536;
 
+const QUESTION_ROOM: usize = 131071;
+
+const TREE_ROOM: usize = 36865;
+
 fn usage() {
     print(
-        b"usage: profile rewrite PROFILE OUT | profile body PROFILE N | profile include PROFILE PATH PATH\n",
+        b"usage: profile rewrite PROFILE OUT | profile body PROFILE N | profile include PROFILE PATH PATH | profile keep PROFILE QUESTION TREE\n",
     );
 }
 
@@ -68,6 +73,21 @@ fn include() {
     }
 }
 
+fn keep() {
+    let mut profile = [0u8; PROFILE_ROOM];
+    let length = read_argument(2, &mut profile);
+    let mut question = [0u8; QUESTION_ROOM];
+    let asked = read_argument(3, &mut question);
+    let mut tree = [0u8; TREE_ROOM];
+    let nodes = read_argument(4, &mut tree);
+    let kept = tree_checks::keep(&profile[..length], &question[..asked], &tree[..nodes]);
+    match kept {
+        Keeping::Kept => print(b"kept\n"),
+        Keeping::Broken => print(b"broken\n"),
+        Keeping::Refused(r) => print_refusal(r.number, r.input, r.place),
+    }
+}
+
 // `profile body PROFILE N`: digits alone are a number.
 fn body_of_argument() {
     let number = number_argument(3);
@@ -91,6 +111,9 @@ fn main() {
     if words == 5 {
         if is_word(1, b"include") {
             return include();
+        }
+        if is_word(1, b"keep") {
+            return keep();
         }
         return usage();
     }

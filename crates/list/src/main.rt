@@ -1,0 +1,55 @@
+// The listing program of document 01: reads a tree file on standard input, with labels taken as in the profile that it opens by the fixed name
+// `profile.key`, and prints all blocks of its listing; on a refusal only `refused` with number, input and record.
+use answers::Listing;
+use files::print;
+use files::print_refusal;
+use files::read_named;
+use libc::STDIN_FILENO;
+use listings::list_block;
+
+// One byte more than an input's size, so that a larger one is refused.
+const PROFILE_ROOM: usize = 16385;
+
+const TREE_ROOM: usize = 36865;
+
+const ANSWER_ROOM: usize = 65536;
+
+// The first line and 4,096 nodes are lines of five blocks.
+const BLOCKS: usize = 5;
+
+// Prints one block; false where the listing is refused.
+fn print_block(profile: &[u8], tree: &[u8], block: usize) -> bool {
+    let mut answer = [0u8; ANSWER_ROOM];
+    let listing = list_block(profile, tree, block, &mut answer);
+    match listing {
+        Listing::Refused(r) => {
+            print_refusal(r.number, r.input, r.place);
+            false
+        }
+        Listing::Listed(used) => {
+            if used <= ANSWER_ROOM {
+                print(&answer[..used]);
+            }
+            true
+        }
+    }
+}
+
+// "the program prints all"
+fn print_blocks(profile: &[u8], tree: &[u8]) {
+    let mut block = 0;
+    while block < BLOCKS {
+        if !print_block(profile, tree, block) {
+            return;
+        }
+        block += 1;
+    }
+}
+
+fn main() {
+    let mut profile = [0u8; PROFILE_ROOM];
+    let labels = read_named(b"profile.key", &mut profile);
+    let mut tree = [0u8; TREE_ROOM];
+    let nodes = io::read_full(STDIN_FILENO, &mut tree);
+    print_blocks(&profile[..labels], &tree[..nodes]);
+}

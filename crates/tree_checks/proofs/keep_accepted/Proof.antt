@@ -1,0 +1,33 @@
+use Rattle.tree_checks.specs.Asked.{asked-tree, asked-key, tests-broken, tests-kept}
+use borrow.Author.Needs.{needs}
+use Rattle.tree_checks.proofs.keep_accepted.Statement.{statement}
+use Rattle.tree_checks.proofs.keep_accepted.Tie as tie
+use Rattle.tree_checks.proofs.keep_accepted.Reads as reads
+use Rattle.tree_checks.proofs.keep_accepted.Lts as lts
+use Rattle.checks.proofs.profiles.body_at_front.Reads as body-at-front-reads
+use Rattle.tree_checks.proofs.keys.breaks.Reads as breaks-reads
+use Rattle.tree_tables.proofs.prepare.Reads as prepare-reads
+
+-- src/lib.rt:35:9
+prepare-requires : tie.Need-prepare-requires
+prepare-requires c κs = search (asked-tree)
+
+-- src/lib.rt:40:9
+body-at-front-requires : tie.Need-body-at-front-requires
+body-at-front-requires c κs = search needs
+
+-- src/lib.rt:41:8
+breaks-requires : tie.Need-breaks-requires
+breaks-requires c κs = (search needs, search (asked-key))
+
+-- src/lib.rt:42:9
+returns : tie.Need-returns
+returns c = search (tests-broken)
+
+-- src/lib.rt:31:1
+returns-2 : tie.Need-returns-2
+returns-2 c = search (tests-kept)
+
+pub keep-accepted-spec : {M : Type 1} → statement M
+keep-accepted-spec =
+    tie.close (tie.spec prepare-requires body-at-front-requires breaks-requires returns returns-2)

@@ -1,0 +1,223 @@
+-- What the search finds over an accepted question and an accepted tree, said of the operations: one law for each return.
+use Prim.Native.Nat.{ℕ, zero, suc, _+_, _≤_, _<_}
+use mathlib.Core.Path.{_≡_, refl, sym, _∙_, ap, subst}
+use mathlib.Core.Logic.{inl, inr}
+use mathlib.Core.Bool.{Bool, true, false}
+use mathlib.Core.List.{List, [], _∷_}
+use mathlib.Core.Option.{some, Option·some-injective}
+use native.Mathlib.Omega.{arith}
+use lib.Seq.{take-length}
+use lib.ListN.{length, take, getElem?}
+use Rattle.meaning.specs.Limits.{KeyLimits, inProfile}
+use Rattle.meaning.specs.Lists.{Each}
+use Rattle.meaning.specs.Lists.Each.{end, also}
+use Rattle.meaning.specs.Paths.{Label, Class, classOf, simple}
+use Rattle.meaning.specs.Trees.{Table, tableOf}
+use Rattle.meaning.specs.Keys.{Key, Breaks, Keeps}
+use Rattle.meaning.specs.Records.{recordBody, recordKind, keyIn}
+use Rattle.meaning.specs.Refusals.{nodesIn, questionIn, treeRefusal}
+use Rattle.meaning.specs.Operations.{TestsTree, ChecksCounterexample, CounterexampleJudged, refusedBy, plain, kept, broken, accepted, labelsIn, keysIn, recordsFrom, treeIn, KeepsIn, BreaksIn}
+use Rattle.meaning.specs.Operations.CounterexampleJudged.{breaksKey, keepsQuestion, refutes}
+use Rattle.shapes.specs.Classes.{Tabled, classBy}
+use Rattle.theory_paths.specs.Bools.{each-every}
+use Rattle.theory_paths.specs.Good
+use Rattle.theory_operations.specs.Refusing.{unless-sound, sound-number}
+use Rattle.theory_records.specs.Heads.{Whole}
+use Rattle.theory_records.specs.Encodings.{ends-key}
+use Rattle.theory_records.specs.Bodies.{records-add}
+use Rattle.theory_records.specs.Profiles.{accepted-labels}
+use Rattle.theory_records.specs.Places.{KeyPlace, key-place}
+use Rattle.theory_records.specs.Questions.{question-accepts}
+use Rattle.theory_files.specs.Files.{class-same, file-table, tree-bytes}
+use Rattle.judged.specs.declared.Judged.{Judged}
+use Rattle.answers.specs.declared.Outcome.{Outcome}
+use Rattle.answers.specs.declared.Outcome.the-variants as O
+use Rattle.answers.specs.declared.Refusal.{Refusal}
+use Rattle.answers.specs.Cases.{outcomeOf, meant}
+use Rattle.records.specs.ProfileWalks.{ProfileSays}
+use Rattle.tree_nodes.specs.FileTable.{fileTable, TreeBytes}
+use Rattle.tree_nodes.specs.Decides.{Decides}
+use Rattle.tree_search.specs.Search.{GoodKey}
+use Rattle.checks.specs.Found.{Ready, Tables, ready-of, fine-is}
+use Rattle.tree_checks.specs.Inputs.{Passes, BothSay, none-refuses, profile-refuses, both-refuse}
+use Rattle.tree_checks.specs.ProfileKeys.{keyBodyAt, KeyBodies, KeptBelow, LowestBroken}
+
+-- An accepted question and an accepted tree under a class table
+pub record Asked (question tree classes : List ℕ) : Type 0 where
+  pub tables : Tables classes
+  pub passes : (labels : List Label) → Tabled labels classes → Passes labels question tree
+
+-- An accepted profile with its class table and its counts
+pub record Counted (profile classes : List ℕ) (labels keys : ℕ) : Type 0 where
+  pub ready : Ready profile classes
+  pub labelCount : labels ≡ length (labelsIn profile)
+  pub keyCount : keys ≡ length (keysIn profile)
+
+pub asked-of : {question tree classes : List ℕ} → Tables classes → {o : Outcome} → BothSay question tree classes o → o ≡ O.Fine
+    → Asked question tree classes
+unfolding BothSay
+asked-of {question} {tree} {classes} tables says k =
+    record { tables = tables; passes = subst (BothSay question tree classes) k says }
+
+pub counted-of : {profile classes : List ℕ} {judged : Judged} {labels keys : ℕ} → ProfileSays profile judged classes labels keys → {o : Outcome}
+    → o ≡ outcomeOf 1 judged → o ≡ O.Fine → Counted profile classes labels keys
+counted-of says e k =
+    let z = sound-number (fine-is says e k) in
+    record { ready = ready-of says e k; labelCount = says .labelCount z; keyCount = says .keyCount z }
+
+-- a key record that was accepted has the body of a key
+key-body : (labels : List Label) (limits : KeyLimits) (l : List ℕ) → Whole l → recordKind l ≡ 2
+    → Good.GoodKey labels limits (keyIn (recordBody l)) → GoodKey (recordBody l)
+key-body labels limits l w k g =
+    let s = Good.paths-some labels limits (keyIn (recordBody l)) g in
+    record {
+      reads = ends-key l w k;
+      some = omega arith;
+      simples = each-every simple (keyIn (recordBody l) .paths) (Good.key-path-simple labels limits (keyIn (recordBody l)) g);
+    }
+
+module _ {question tree classes : List ℕ} (asked : Asked question tree classes) where
+  own : Passes (asked .tables .labels) question tree
+  own = asked .passes (asked .tables .labels) (asked .tables .tabled)
+
+  pub asked-tree : TreeBytes classes tree
+  asked-tree = tree-bytes (asked .tables .labels) tree (own .judged) (asked .tables .good) classes (asked .tables .small) (asked .tables .tabled)
+
+  pub asked-key : {body : List ℕ} → body ≡ recordBody question → GoodKey body
+  unfolding questionIn
+  asked-key e =
+      let a = question-accepts (asked .tables .labels) question (own .asked) in
+      subst GoodKey (sym e) (key-body (asked .tables .labels) inProfile question (a .isWhole) (a .kind) (a .good))
+
+  module _ {profile : List ℕ} (ready : Ready profile classes) where
+    here : Passes (labelsIn profile) question tree
+    here = asked .passes (labelsIn profile) (ready .tabled)
+
+    same-class : classBy classes ≡ classOf (labelsIn profile)
+    same-class =
+        class-same (labelsIn profile) (accepted-labels profile (sound-number (ready .accepted))) classes (asked .tables .small) (ready .tabled)
+
+    same-table : fileTable tree ≡ tableOf (nodesIn (labelsIn profile) tree)
+    same-table = file-table (labelsIn profile) tree (here .judged)
+
+    breaks-in : (key : Key) → Breaks (classBy classes) (fileTable tree) key → BreaksIn profile tree key
+    unfolding BreaksIn treeIn
+    breaks-in key w =
+        subst (λ (t : Table). Breaks (classOf (labelsIn profile)) t key) same-table
+        (subst (λ (κ : ℕ → Class). Breaks κ (fileTable tree) key) same-class w)
+
+    keeps-in : (key : Key) → (Breaks (classBy classes) (fileTable tree) key → ⊥) → KeepsIn profile tree key
+    unfolding KeepsIn Keeps treeIn
+    keeps-in key n w =
+        n
+        (subst (λ (κ : ℕ → Class). Breaks κ (fileTable tree) key) (sym same-class)
+        (subst (λ (t : Table). Breaks (classOf (labelsIn profile)) t key) (sym same-table) w))
+
+    module _ {body : List ℕ} (isBody : body ≡ recordBody question) {found : Bool}
+        (decided : Decides (Breaks (classBy classes) (fileTable tree) (keyIn body)) found) where
+      breaks-question : found ≡ true → BreaksIn profile tree (questionIn question)
+      unfolding questionIn
+      breaks-question e = subst (λ (b : List ℕ). BreaksIn profile tree (keyIn b)) isBody (breaks-in (keyIn body) (decided .yes e))
+
+      keeps-question : found ≡ false → KeepsIn profile tree (questionIn question)
+      unfolding questionIn
+      keeps-question e = subst (λ (b : List ℕ). KeepsIn profile tree (keyIn b)) isBody (keeps-in (keyIn body) (decided .no e))
+
+pub tests-broken : {question tree classes : List ℕ} → Asked question tree classes → {body : List ℕ} → body ≡ recordBody question → {found : Bool}
+    → Decides (Breaks (classBy classes) (fileTable tree) (keyIn body)) found → found ≡ true → (profile : List ℕ) → Ready profile classes
+    → TestsTree profile question tree (plain broken)
+unfolding TestsTree
+tests-broken asked b d e profile ready =
+    unless-sound _ [] _ _ (none-refuses _ _ ready (here asked ready)) (inr (breaks-question asked ready b d e, refl))
+
+pub tests-kept : {question tree classes : List ℕ} → Asked question tree classes → {body : List ℕ} → body ≡ recordBody question → {found : Bool}
+    → Decides (Breaks (classBy classes) (fileTable tree) (keyIn body)) found → found ≡ false → (profile : List ℕ) → Ready profile classes
+    → TestsTree profile question tree (plain kept)
+unfolding TestsTree
+tests-kept asked b d e profile ready =
+    unless-sound _ [] _ _ (none-refuses _ _ ready (here asked ready)) (inl (keeps-question asked ready b d e, refl))
+
+-- what holds of the keys below n, one by one
+each-front : {A : Type 0} {Q : A → Type 0} (n : ℕ) (xs : List A) → ((i : ℕ) (x : A) → i < n → getElem? xs i ≡ some x → Q x) → Each Q (take n xs)
+each-front zero xs h = end
+each-front (suc n) [] h = end
+each-front (suc n) (x ∷ xs) h = also (h zero x (omega arith) refl) (each-front n xs (λ i y l e. h (suc i) y (omega arith) e))
+
+module _ {profile classes : List ℕ} {labels keys : ℕ} (counted : Counted profile classes labels keys) where
+  body-place : (n : ℕ) → keyBodyAt profile labels n ≡ recordBody (recordsFrom (length (labelsIn profile) + n) profile)
+  unfolding keyBodyAt
+  body-place n =
+      ap recordBody (sym (records-add labels n profile) ∙ ap (λ (l : ℕ). recordsFrom (l + n) profile) (counted .labelCount))
+
+  place : (n : ℕ) → n < keys → KeyPlace (labelsIn profile) profile (keysIn profile) n
+  place n h = key-place profile n (let e = counted .keyCount in omega arith)
+
+  pub counted-bodies : KeyBodies profile labels keys
+  counted-bodies =
+      record {
+        each = λ n h.
+            let p = place n h in
+            subst GoodKey (sym (body-place n)) (key-body (labelsIn profile) inProfile _ (p .isWhole) (p .kind) (p .good));
+      }
+
+  key-at : (n : ℕ) → n < keys → getElem? (keysIn profile) n ≡ some (keyIn (keyBodyAt profile labels n))
+  key-at n h = place n h .is ∙ ap (λ (b : List ℕ). some (keyIn b)) (sym (body-place n))
+
+  module _ {question tree : List ℕ} (asked : Asked question tree classes) {r : ℕ}
+      (lowest : LowestBroken (classBy classes) (fileTable tree) profile labels keys r) where
+    front-kept : Each (KeepsIn profile tree) (take r (keysIn profile))
+    front-kept =
+        each-front r (keysIn profile)
+        (λ i key l e.
+        subst (KeepsIn profile tree)
+        (Option·some-injective (keyIn (keyBodyAt profile labels i)) key (sym (key-at i (let w = lowest .within in omega arith)) ∙ e))
+        (keeps-in asked (counted .ready) (keyIn (keyBodyAt profile labels i)) (lowest .below .each i l)))
+
+    all-kept : keys ≤ r → Each (KeepsIn profile tree) (keysIn profile)
+    all-kept h =
+        let w = lowest .within in
+        let c = counted .keyCount in
+        let e : r ≡ length (keysIn profile) = omega arith in
+        subst (Each (KeepsIn profile tree)) (ap (λ (n : ℕ). take n (keysIn profile)) e ∙ take-length (keysIn profile)) front-kept
+
+    pub breaks-key : r < keys → ChecksCounterexample profile question tree (refusedBy (record { number = 12; input = 1; place = r }) [])
+    unfolding ChecksCounterexample
+    breaks-key h =
+        unless-sound _ [] _ _ (none-refuses _ _ (counted .ready) (here asked (counted .ready)))
+        (breaksKey r (keyIn (keyBodyAt profile labels r)) (key-at r h) front-kept (breaks-in asked (counted .ready) _ (lowest .here h)) refl)
+
+    module _ (all : keys ≤ r) {body : List ℕ} (isBody : body ≡ recordBody question) {found : Bool}
+        (decided : Decides (Breaks (classBy classes) (fileTable tree) (keyIn body)) found) where
+      pub counterexample : found ≡ true → ChecksCounterexample profile question tree (plain accepted)
+      unfolding ChecksCounterexample
+      counterexample e =
+          unless-sound _ [] _ _ (none-refuses _ _ (counted .ready) (here asked (counted .ready)))
+          (refutes (all-kept all) (breaks-question asked (counted .ready) isBody decided e) refl)
+
+      pub keeps-all : found ≡ false → ChecksCounterexample profile question tree (refusedBy (record { number = 13; input = 3; place = 0 }) [])
+      unfolding ChecksCounterexample
+      keeps-all e =
+          unless-sound _ [] _ _ (none-refuses _ _ (counted .ready) (here asked (counted .ready)))
+          (keepsQuestion (all-kept all) (keeps-question asked (counted .ready) isBody decided e) refl)
+
+-- the refusals of either operation
+pub tests-profile-stops : {profile classes : List ℕ} {judged : Judged} {labels keys : ℕ} → ProfileSays profile judged classes labels keys → {o : Outcome}
+    → o ≡ outcomeOf 1 judged → {r : Refusal} (question tree : List ℕ) → o ≡ O.Refused r → TestsTree profile question tree (refusedBy (meant r) [])
+unfolding TestsTree
+tests-profile-stops says e question tree k = profile-refuses says e question tree _ k
+
+pub tests-both-stop : (question tree : List ℕ) {classes : List ℕ} {o : Outcome} → BothSay question tree classes o → {r : Refusal} → o ≡ O.Refused r
+    → (profile : List ℕ) → Ready profile classes → TestsTree profile question tree (refusedBy (meant r) [])
+unfolding TestsTree
+tests-both-stop question tree says k profile ready = both-refuse question tree ready says _ k
+
+pub checks-profile-stops : {profile classes : List ℕ} {judged : Judged} {labels keys : ℕ} → ProfileSays profile judged classes labels keys → {o : Outcome}
+    → o ≡ outcomeOf 1 judged → {r : Refusal} (question tree : List ℕ) → o ≡ O.Refused r
+    → ChecksCounterexample profile question tree (refusedBy (meant r) [])
+unfolding ChecksCounterexample
+checks-profile-stops says e question tree k = profile-refuses says e question tree _ k
+
+pub checks-both-stop : (question tree : List ℕ) {profile classes : List ℕ} {labels keys : ℕ} → Counted profile classes labels keys → {o : Outcome}
+    → BothSay question tree classes o → {r : Refusal} → o ≡ O.Refused r → ChecksCounterexample profile question tree (refusedBy (meant r) [])
+unfolding ChecksCounterexample
+checks-both-stop question tree counted says k = both-refuse question tree (counted .ready) says _ k

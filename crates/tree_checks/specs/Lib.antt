@@ -1,0 +1,3 @@
+pub mod ProfileKeys
+pub mod Inputs
+pub mod Asked

@@ -1,0 +1,22 @@
+// "the refusals of profile, question and tree in their order": question, then tree.
+use answers::Outcome;
+use answers::QUESTION;
+use answers::TREE_OR_PROOF;
+use answers::of_input;
+use records::question::read_question;
+use tree_records::tree::read_tree;
+ghost use Rattle.tree_checks.specs.Inputs.{BothSay};
+
+pub fn read_both(question: &[u8], tree: &[u8], classes: &[u8; 256]) -> Outcome
+    ensures { λ r. ⌜ BothSay (now (question .entry)) (now (tree .entry)) (now (classes .entry)) r ⌝ }
+{
+    let asked = read_question(question, classes);
+    let outcome = of_input(asked, QUESTION);
+    match outcome {
+        Outcome::Refused(refusal) => Outcome::Refused(refusal),
+        Outcome::Fine => {
+            let judged = read_tree(tree, classes);
+            of_input(judged, TREE_OR_PROOF)
+        }
+    }
+}
