@@ -2,3 +2,4 @@
 -- examples says the truth about all trees.
 pub mod Ending
 pub mod Exactly
+pub mod Table
