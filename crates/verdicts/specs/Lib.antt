@@ -3,3 +3,4 @@
 pub mod Ending
 pub mod Exactly
 pub mod Table
+pub mod Demand
