@@ -1,11 +1,11 @@
--- `replay::fill` is safe and ends: the bytes that are left fall.
+-- `replay_frames::lent::fill` is safe and ends: the bytes that are left fall.
 use mathlib.Core.Path.{_≡_}
 use Prim.Native.Nat.{_-_}
 use lib.ListN.{length, length-set}
 use native.Mathlib.Omega.{arith}
 use borrow.Author.Needs.{needs}
-use Rattle.replay.proofs.fill.Statement.{statement}
-use Rattle.replay.proofs.fill.Tie as tie
+use Rattle.replay_frames.proofs.lent.fill.Statement.{statement}
+use Rattle.replay_frames.proofs.lent.fill.Tie as tie
 
 abbrev Inv-loop : tie.InvT-loop
 Inv-loop answer₀ i₀ answer i = length answer ≡ length answer₀

@@ -1,9 +1,9 @@
--- `replay::filled` is safe: the bytes used lie within the answer buffer.
+-- `replay_frames::lent::filled` is safe: the bytes used lie within the answer buffer.
 use mathlib.Core.Path.{sym}
 use lib.Seq.{length-take-le}
 use borrow.Author.Needs.{needs}
-use Rattle.replay.proofs.filled.Statement.{statement}
-use Rattle.replay.proofs.filled.Tie as tie
+use Rattle.replay_frames.proofs.lent.filled.Statement.{statement}
+use Rattle.replay_frames.proofs.lent.filled.Tie as tie
 
 changed-requires : tie.Need-changed-requires
 changed-requires c κs = search needs

@@ -1,10 +1,10 @@
--- `replay::is_unchanged` is safe and ends: the bytes that are left fall.
+-- `replay_frames::lent::is_unchanged` is safe and ends: the bytes that are left fall.
 use Prim.Native.Nat.{_-_, _≤_}
 use lib.ListN.{length}
 use native.Mathlib.Omega.{arith}
 use borrow.Author.Needs.{needs}
-use Rattle.replay.proofs.is_unchanged.Statement.{statement}
-use Rattle.replay.proofs.is_unchanged.Tie as tie
+use Rattle.replay_frames.proofs.lent.is_unchanged.Statement.{statement}
+use Rattle.replay_frames.proofs.lent.is_unchanged.Tie as tie
 
 abbrev Inv-loop : tie.InvT-loop
 Inv-loop answer from i₀ i = from ≤ i

@@ -1,12 +1,9 @@
--- `replay::read_input` is safe: what is read lies within the space.
+-- `replay_frames::cases::read_inputs` is safe: what is read lies within the space.
 use mathlib.Core.Path.{sym}
 use lib.Seq.{length-take-le}
 use borrow.Author.Needs.{needs}
-use Rattle.replay.proofs.read_input.Statement.{statement}
-use Rattle.replay.proofs.read_input.Tie as tie
-
-not-here-requires : tie.Need-not-here-requires
-not-here-requires c κs = search needs
+use Rattle.replay_frames.proofs.cases.read_inputs.Statement.{statement}
+use Rattle.replay_frames.proofs.cases.read_inputs.Tie as tie
 
 returns : tie.Need-returns
 returns c = search needs
@@ -26,11 +23,10 @@ same-length c = search needs
 returns-2 : tie.Need-returns-2
 returns-2 c = search needs
 
-pub read-input-spec : {M : Type 1} → statement M
-read-input-spec =
+pub read-inputs-spec : {M : Type 1} → statement M
+read-inputs-spec =
     tie.close
     (tie.spec
-    not-here-requires
     returns
     slice-relend-prefix-read-full
     slice-aggregate-read-full
