@@ -24,7 +24,7 @@ use Rattle.theory_records.specs.Profiles.{accepted-labels}
 use Rattle.theory_checks.specs.Listings.{list-small, list-profile, list-tree, list-block}
 use Rattle.theory_files.specs.Files.{class-same, file-table, tree-bytes}
 use Rattle.tree_nodes.specs.FileTable.{fileTable, TreeBytes}
-use Rattle.tree_listing.specs.Written.{Wrote, written}
+use Rattle.writing.specs.Wrote.{Wrote, written}
 use Rattle.tree_listing.specs.Lines.{blockOf, block-is}
 use Rattle.checks.specs.Found.{Ready, Tables, refused-is, refused-names}
 
