@@ -6,6 +6,7 @@
 //!                                          differ, counts, and fails if any does, or if an operation
 //!                                          that `replay` has is answered `not here`
 //! differential self SEED COUNT [LINE]      what must hold within the reference itself
+//! differential sample cases|answers        a case of each outcome: `replay`'s own files stdin and stdout
 //! differential lines                       the wrong lines that LINE can choose, each with `here` where it
 //!                                          changes answers of an operation that `replay` has, else `later`
 //!
@@ -27,7 +28,12 @@ const SHOWN: usize = 5;
 
 /// The operations that the program `replay` has: each of their cases is compared. Those of another
 /// operation may all be answered `not here`; they are counted apart and compared with nothing.
-const PRESENT: [u8; 3] = [REWRITE, BODY, INCLUDE];
+const PRESENT: [u8; 7] = [REWRITE, BODY, INCLUDE, KEEP, CHECK_PROOF, CHECK_TREE, LIST];
+/// The sample is drawn from so many cases, of at most so many bytes each.
+const SAMPLE_SEED: u64 = 1;
+const SAMPLE_COUNT: usize = 20_000;
+const SAMPLE_BYTES: usize = 400;
+
 const NOT_HERE: &str = "not here";
 
 fn hex(bytes: &[u8]) -> String {
@@ -151,6 +157,19 @@ fn compare(cases: &[Case], stream: &[u8]) -> bool {
     differing + faults == 0
 }
 
+/// For each operation that `replay` has and each outcome the first case of seed 1 that has it and is short.
+fn sample() -> Vec<Case> {
+    let mut seen = BTreeMap::new();
+    for case in cases(SAMPLE_SEED, SAMPLE_COUNT).filter(|case| PRESENT.contains(&case.operation)) {
+        let answer = answer(&case);
+        let bytes = case.inputs.iter().map(|input| input.len()).sum::<usize>() + answer.bytes.len();
+        if bytes <= SAMPLE_BYTES {
+            seen.entry(outcome(&case, &answer)).or_insert(case);
+        }
+    }
+    seen.into_values().collect()
+}
+
 /// What 01 promises of the operations together, held on the reference alone.
 fn consistency(seed: u64, count: usize) -> bool {
     let mut random = Random::new(seed);
@@ -225,7 +244,7 @@ fn main() {
     let command = arguments.first().map_or("", |word| word.as_str());
     let (seed, count) = match (number(1), number(2)) {
         (Some(seed), Some(count)) => (seed, count as usize),
-        _ if command == "lines" => (0, 0),
+        _ if command == "lines" || command == "sample" => (0, 0),
         _ => {
             eprintln!("usage: differential cases|answers|compare|self SEED COUNT [LINE], or lines");
             std::process::exit(2);
@@ -235,14 +254,14 @@ fn main() {
     let mut is_right = true;
     let choose = || reference::choose_wrong_line(number(3).unwrap_or(0) as usize);
     match command {
-        "cases" => cases(seed, count).iter().for_each(|case| write_case(&mut out, case)),
+        "cases" => cases(seed, count).for_each(|case| write_case(&mut out, &case)),
         "answers" => {
-            let cases = cases(seed, count);
+            let cases: Vec<Case> = cases(seed, count).collect();
             choose();
             cases.iter().for_each(|case| write_answer(&mut out, &answer(case)));
         }
         "compare" => {
-            let cases = cases(seed, count);
+            let cases: Vec<Case> = cases(seed, count).collect();
             choose();
             let mut stream = Vec::new();
             std::io::stdin().read_to_end(&mut stream).unwrap();
@@ -252,6 +271,10 @@ fn main() {
             choose();
             is_right = consistency(seed, count);
         }
+        "sample" if arguments.get(1).map_or(false, |word| word == "cases") => {
+            sample().iter().for_each(|case| write_case(&mut out, case));
+        }
+        "sample" => sample().iter().for_each(|case| write_answer(&mut out, &answer(case))),
         _ => {
             for (at, (operations, text)) in reference::WRONG_LINES.iter().enumerate() {
                 let is_here = operations.iter().any(|operation| PRESENT.contains(operation));

@@ -14,10 +14,32 @@ fn case(operation: u8, profile: &[u8], second: &[u8], third: &[u8]) -> Case {
     Case { operation, number: 0, room: ROOM, inputs: [profile.to_vec(), second.to_vec(), third.to_vec()] }
 }
 
-/// The cases of a seed. The true reference makes them, so that a wrong line changes answers alone.
-pub fn cases(seed: u64, count: usize) -> Vec<Case> {
-    assert!(super::wrong(0));
-    let mut random = Random::new(seed);
+/// The cases of a seed, one after the other: fixed ones, then as many random ones as asked. The true
+/// reference makes them, so that a wrong line changes answers alone.
+pub struct Cases {
+    fixed: std::vec::IntoIter<Case>,
+    random: Random,
+    left: usize,
+}
+
+pub fn cases(seed: u64, count: usize) -> Cases {
+    Cases { fixed: fixed_cases().into_iter(), random: Random::new(seed), left: count }
+}
+
+impl Iterator for Cases {
+    type Item = Case;
+
+    fn next(&mut self) -> Option<Case> {
+        assert!(super::wrong(0));
+        if let Some(case) = self.fixed.next() {
+            return Some(case);
+        }
+        self.left = self.left.checked_sub(1)?;
+        Some(whole_or_damaged(&mut self.random))
+    }
+}
+
+fn fixed_cases() -> Vec<Case> {
     let mut all = Vec::new();
     examples(&mut all);
     easily_wrong(&mut all);
@@ -25,21 +47,23 @@ pub fn cases(seed: u64, count: usize) -> Vec<Case> {
     path_limits(&mut all);
     tree_limits(&mut all);
     proof_limits(&mut all);
-    for _ in 0..count {
-        let asked = asked(&mut random);
-        let mut next = random_case(&mut random, &asked);
-        let input = random.below(3);
-        match random.below(6) {
-            0 => next.inputs[input] = damaged(&mut random, &next.inputs[input]),
-            1 => next.inputs[input] = spoiled(&mut random, &asked.world, &next.inputs[input]),
-            _ => {}
-        }
-        if random.chance(1, 200) {
-            next.room = random.one_of(&[0, 1, ROOM - 1, ROOM + 1]);
-        }
-        all.push(next);
-    }
     all
+}
+
+/// A random case: of six one is damaged and one spoiled, and some lend another buffer than 01 asks.
+fn whole_or_damaged(random: &mut Random) -> Case {
+    let asked = asked(random);
+    let mut next = random_case(random, &asked);
+    let input = random.below(3);
+    match random.below(6) {
+        0 => next.inputs[input] = damaged(random, &next.inputs[input]),
+        1 => next.inputs[input] = spoiled(random, &asked.world, &next.inputs[input]),
+        _ => {}
+    }
+    if random.chance(1, 200) {
+        next.room = random.one_of(&[0, 1, ROOM - 1, ROOM + 1]);
+    }
+    next
 }
 
 fn examples(all: &mut Vec<Case>) {
@@ -240,44 +264,83 @@ fn proof_limits(all: &mut Vec<Case>) {
     }
 }
 
+type Maker = fn(&mut Random, &Asked) -> Case;
+
+/// How many of 100 random cases each maker makes: as many as give each verdict its minimum
+/// (differential/counts.rs), and more where cases that look right go wrong.
+const SHARES: [(usize, Maker); 8] = [
+    (7, rewrite_case),
+    (6, body_case),
+    (15, include_case),
+    (16, tree_case),
+    (7, list_case),
+    (11, derivation_case),
+    (22, evidence_case),
+    (16, decide_case),
+];
+
 fn random_case(random: &mut Random, asked: &Asked) -> Case {
-    let profile = write_profile(&asked.profile);
-    let question = key_record(&asked.question);
-    match random.below(16) {
-        0 => case(REWRITE, &profile, &[], &[]),
-        1 => Case { number: random.below(8) as u32, ..case(BODY, &profile, &[], &[]) },
-        2 | 3 => {
-            let longest = random.one_of(&[3, 8, 32]);
-            let p = path(random, &asked.world, longest, true);
-            let q = if random.chance(1, 2) { wider(random, &p) } else { path(random, &asked.world, longest, true) };
-            case(INCLUDE, &profile, &p, &q)
+    let mut drawn = random.below(SHARES.iter().map(|share| share.0).sum());
+    for (share, maker) in SHARES {
+        if drawn < share {
+            return maker(random, asked);
         }
-        4 | 5 | 6 => {
-            let size = if random.chance(1, 100) { 200 + random.below(TREE_NODES - 199) } else { 1 + random.below(40) };
-            let nodes = tree(random, &asked.world, size);
-            let operation = if random.chance(2, 3) { KEEP } else { CHECK_TREE };
-            let near = key_record(&key_on(random, &asked.world, &nodes));
-            let question = if random.chance(2, 3) { near } else { question };
-            case(operation, &profile, &question, &write_tree(&nodes))
-        }
-        7 => {
-            let size = if random.chance(1, 20) { 1_000 + random.below(1_200) } else { 1 + random.below(40) };
-            let nodes = tree(random, &asked.world, size);
-            Case { number: random.below(3) as u32, ..case(LIST, &profile, &[], &write_tree(&nodes)) }
-        }
-        8 | 9 => {
-            let length = 1 + random.below(16);
-            let lines = derivation(random, asked, length);
-            let last = lines.last().map(|line| line.key.clone()).filter(|key| is_good(key, &asked.profile.classes));
-            case(CHECK_PROOF, &profile, &key_record(&last.unwrap_or_else(|| asked.question.clone())), &write_proof(&lines))
-        }
-        10 | 11 | 12 => evidence_case(random, asked, &profile, &question),
-        _ => case(DECIDE, &profile, &question, &[]),
+        drawn -= share;
     }
+    unreachable!("the number drawn is below the sum of the shares")
+}
+
+fn profile_of(asked: &Asked) -> Vec<u8> {
+    write_profile(&asked.profile)
+}
+
+fn rewrite_case(_: &mut Random, asked: &Asked) -> Case {
+    case(REWRITE, &profile_of(asked), &[], &[])
+}
+
+fn body_case(random: &mut Random, asked: &Asked) -> Case {
+    Case { number: random.below(8) as u32, ..case(BODY, &profile_of(asked), &[], &[]) }
+}
+
+fn include_case(random: &mut Random, asked: &Asked) -> Case {
+    let longest = random.one_of(&[3, 8, 32]);
+    let p = path(random, &asked.world, longest, true);
+    let q = if random.chance(1, 2) { wider(random, &p) } else { path(random, &asked.world, longest, true) };
+    case(INCLUDE, &profile_of(asked), &p, &q)
+}
+
+/// Trees are small, now and then as large as they may be.
+fn tree_case(random: &mut Random, asked: &Asked) -> Case {
+    let size = if random.chance(1, 100) { 200 + random.below(TREE_NODES - 199) } else { 1 + random.below(40) };
+    let nodes = tree(random, &asked.world, size);
+    let operation = if random.chance(2, 3) { KEEP } else { CHECK_TREE };
+    let near = key_on(random, &asked.world, &nodes);
+    let key = if random.chance(2, 3) { &near } else { &asked.question };
+    case(operation, &profile_of(asked), &key_record(key), &write_tree(&nodes))
+}
+
+/// Some trees have more lines than a block.
+fn list_case(random: &mut Random, asked: &Asked) -> Case {
+    let size = if random.chance(1, 20) { 1_000 + random.below(1_200) } else { 1 + random.below(40) };
+    let nodes = tree(random, &asked.world, size);
+    Case { number: random.below(3) as u32, ..case(LIST, &profile_of(asked), &[], &write_tree(&nodes)) }
+}
+
+fn derivation_case(random: &mut Random, asked: &Asked) -> Case {
+    let length = 1 + random.below(16);
+    let lines = derivation(random, asked, length);
+    let last = lines.last().map(|line| line.key.clone()).filter(|key| is_good(key, &asked.profile.classes));
+    let question = key_record(&last.unwrap_or_else(|| asked.question.clone()));
+    case(CHECK_PROOF, &profile_of(asked), &question, &write_proof(&lines))
+}
+
+fn decide_case(_: &mut Random, asked: &Asked) -> Case {
+    case(DECIDE, &profile_of(asked), &key_record(&asked.question), &[])
 }
 
 /// The reference's own evidence, sometimes with one value, label or line changed.
-fn evidence_case(random: &mut Random, asked: &Asked, profile: &[u8], question: &[u8]) -> Case {
+fn evidence_case(random: &mut Random, asked: &Asked) -> Case {
+    let (profile, question) = (profile_of(asked), key_record(&asked.question));
     match evidence(asked) {
         Evidence::Proof(mut lines) => {
             if random.chance(1, 3) {
@@ -285,7 +348,7 @@ fn evidence_case(random: &mut Random, asked: &Asked, profile: &[u8], question: &
                 let other = random.below(lines.len());
                 lines[at].key = lines[other].key.clone();
             }
-            case(CHECK_PROOF, profile, question, &write_proof(&lines))
+            case(CHECK_PROOF, &profile, &question, &write_proof(&lines))
         }
         Evidence::Tree(mut nodes) => {
             if random.chance(1, 3) {
@@ -296,7 +359,7 @@ fn evidence_case(random: &mut Random, asked: &Asked, profile: &[u8], question: &
                 }
             }
             let operation = if random.chance(2, 3) { CHECK_TREE } else { KEEP };
-            case(operation, profile, question, &write_tree(&nodes))
+            case(operation, &profile, &question, &write_tree(&nodes))
         }
     }
 }
