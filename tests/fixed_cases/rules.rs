@@ -119,7 +119,7 @@ const SUPERKEY: [OnePremise; 11] = [
 ];
 
 /// "T = X.P, P simple, S = {p}; gives (C, (X, {P.p}))."
-const SUBNODES: [OnePremise; 18] = [
+const SUBNODES: [OnePremise; 21] = [
     ("(e,(port.frame,{@seq}))", "(e,(port,{frame.@seq}))", YES),
     ("(e,(port.frame,{@seq}))", "(e,(e,{port.frame.@seq}))", YES),
     ("(e,(port.frame,{@seq}))", "(e,(port.frame,{@seq}))", YES),
@@ -128,7 +128,10 @@ const SUBNODES: [OnePremise; 18] = [
     ("(e,(port.@id,{e}))", "(e,(port,{@id}))", YES),
     ("(e,(run._*.port.frame,{stamp}))", "(e,(run._*,{port.frame.stamp}))", YES),
     ("(e,(port.frame,{stamp,@seq}))", "(e,(port,{frame.stamp,frame.@seq}))", NO),
+    ("(e,(port.frame,{stamp,@seq}))", "(e,(port,{frame.stamp}))", NO),
+    ("(e,(port.frame,{stamp,@seq}))", "(e,(port,{frame.@seq}))", NO),
     ("(e,(port.frame,{e,stamp}))", "(e,(port,{frame,frame.stamp}))", NO),
+    ("(e,(port.frame,{e,stamp}))", "(e,(port,{frame}))", NO),
     ("(e,(port.frame,{@seq}))", "(e,(port,{@seq}))", NO),
     ("(e,(port.frame,{@seq}))", "(e,(port,{frame.@id}))", NO),
     ("(e,(port.frame,{@seq}))", "(e,(port,{stamp.@seq}))", NO),
@@ -205,7 +208,7 @@ const CONTEXT_TARGET: [OnePremise; 24] = [
 ];
 
 /// "T = X.P, P simple, S = {empty, p}, where p may itself be empty; gives (C, (X, {empty, P.p}))."
-const SUBNODES_EPSILON: [OnePremise; 20] = [
+const SUBNODES_EPSILON: [OnePremise; 21] = [
     ("(e,(port.frame,{e,stamp}))", "(e,(port,{e,frame.stamp}))", YES),
     ("(e,(port.frame,{e,stamp}))", "(e,(e,{e,port.frame.stamp}))", YES),
     ("(e,(port.frame,{e,stamp}))", "(e,(port.frame,{e,stamp}))", YES),
@@ -215,6 +218,7 @@ const SUBNODES_EPSILON: [OnePremise; 20] = [
     ("(run,(_*.frame,{e,@seq}))", "(run,(_*,{e,frame.@seq}))", YES),
     ("(e,(port.@id,{e}))", "(e,(port,{e,@id}))", YES),
     ("(e,(port.frame,{e,stamp,@seq}))", "(e,(port,{e,frame.stamp,frame.@seq}))", NO),
+    ("(e,(port.frame,{e,stamp,@seq}))", "(e,(port,{e,frame.stamp}))", NO),
     ("(e,(port.frame,{stamp,@seq}))", "(e,(port,{frame.stamp,frame.@seq}))", NO),
     ("(e,(port.frame,{stamp}))", "(e,(port,{e,frame.stamp}))", NO),
     ("(e,(port.frame,{e,stamp}))", "(e,(port,{frame.stamp}))", NO),
