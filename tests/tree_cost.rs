@@ -114,6 +114,53 @@ fn dressed_star(nodes: usize) -> Table {
     table
 }
 
+/// Two ports, each with many @id, all equal, and as many @seq, all different: many pairs of equal nodes belong to one pair of targets.
+fn twins(nodes: usize) -> Table {
+    let mut table = Table::new();
+    for _ in 0..2 {
+        let port = table.element(0, PORT);
+        for _ in 0..(nodes - 3) / 4 {
+            let different = table.nodes.len();
+            table.add(port, ID, 1);
+            table.add(port, SEQ, different);
+        }
+    }
+    table
+}
+
+/// A chain, and at its end many frames, each with one port: equal targets at the end of long runs of labels.
+fn broom(nodes: usize) -> Table {
+    let mut table = chain(nodes / 2);
+    let last = table.nodes.len() - 1;
+    for _ in 0..nodes / 4 {
+        let frame = table.element(last, FRAME);
+        table.element(frame, PORT);
+    }
+    table
+}
+
+const TEXTS: usize = 5;
+
+/// Chains that differ at their ends in the order of the texts alone: nodes with equally many nodes below them and, order apart, the same ones.
+fn orders(nodes: usize) -> Table {
+    const CHAINS: usize = 32;
+    let mut table = Table::new();
+    for number in 0..CHAINS {
+        let mut last = 0;
+        for _ in 0..(nodes - 1) / CHAINS - TEXTS {
+            last = table.element(last, RUN);
+        }
+        let mut left: Vec<usize> = (0..TEXTS).collect();
+        let mut choice = number;
+        while !left.is_empty() {
+            let text = left.remove(choice % left.len());
+            choice /= left.len() + 1;
+            table.add(last, TEXT, text);
+        }
+    }
+    table
+}
+
 const FRAMES: usize = 33;
 /// A port with its @id; its frames have two attributes, a stamp and the stamp's text.
 const PORT_NODES: usize = 2 + 5 * FRAMES;
@@ -183,6 +230,14 @@ fn cases() -> Vec<Case> {
         keep("chain, equal and different", EQUAL_AND_DIFFERENT, dressed_chain, "kept"),
         keep("comb, equal and different", EQUAL_AND_DIFFERENT, dressed_comb, "kept"),
         keep("star, equal and different", EQUAL_AND_DIFFERENT, dressed_star, "kept"),
+        // The two ports have no @seq in common.
+        keep("twins, equal and different", "(e,(port,{@id,@seq}))", twins, "kept"),
+        // All ports are equal, and each has a frame of its own as its only context.
+        keep("broom, contexts apart", "(_*.run.frame,(_*.port,{e}))", broom, "kept"),
+        // No port is reached: no run of a target stands below a stamp.
+        keep("broom, no target", "(_*,(_*.stamp._*.port,{e}))", broom, "kept"),
+        // "in table order": no two chains have their texts in one order, and no two elements of a chain have equally many nodes below them.
+        keep("chains of other orders, {e}", "(_*,(_*.run,{e}))", orders, "kept"),
     ];
     // The segment keeps all 64, and breaks the question: @seq 0 stands in two ports.
     cases.push(Case {
