@@ -1,6 +1,7 @@
 // The class of each node: one node that stands for all that are equal to it, found among later nodes of the same weight by `node_eq`; and the
 // next node of its class.
 use tree_equal::node_eq;
+use tree_nodes::fields::NODES;
 use tree_nodes::fields::size;
 use tree_nodes::links::at;
 use tree_nodes::links::blank;
@@ -23,7 +24,8 @@ fn wide(n: u32) -> usize
     n as usize
 }
 
-// The weights sorted into as many buckets as there are nodes: equal nodes stand in one bucket.
+// The weights sorted into as many buckets as there are nodes: equal nodes stand in one bucket. The low part of a weight is a count of nodes, equal
+// for all leaves; the part above it is spread.
 fn sort(weight: &[u32; 4096], count: usize) -> [u16; 4096]
     requires { ⌜ (0 < count) × (count ≤ 4096) ⌝ }
     ensures { λ r. ⌜ Sorted (now (weight .entry)) r count count ⌝ }
@@ -31,7 +33,7 @@ fn sort(weight: &[u32; 4096], count: usize) -> [u16; 4096]
     let mut bucket = blank();
     let mut x = 0;
     while x < count {
-        let own = wide(weight[x]) % count;
+        let own = wide(weight[x]) / NODES % count;
         bucket[x] = own as u16;
         x += 1;
     }
