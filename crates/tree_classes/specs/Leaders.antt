@@ -198,10 +198,11 @@ module _ (κ : ℕ → Class) (t : Table) (class : List ℕ) (j r : ℕ) (low : 
           still u n ∙ is .one u (omega arith) g (subst (Equal κ t u) f q) ∙ sym (there v f)
       single u v h g k l q (no n) (no m) = still u n ∙ c .one u v (omega arith) g (omega arith) l q ∙ sym (still v m)
 
-module _ (κ : ℕ → Class) (t : Table) (tree : IsTree κ t) (class : List ℕ) (i : ℕ) (low : i ≤ 1) (c : ClassedFrom κ t class i) where
-  apart : (y : ℕ) → 0 < y → y < t .size → (x : ℕ) → x ≡ 0 → Equal κ t x y → ⊥
-  apart y p h x z q = tree .rest y p h .notRoot (sym (equal-label q) ∙ ap (λ (k : ℕ). t .label k) z ∙ tree .root)
+-- the root alone has its label
+pub apart : (κ : ℕ → Class) (t : Table) → IsTree κ t → (y : ℕ) → 0 < y → y < t .size → (x : ℕ) → x ≡ 0 → Equal κ t x y → ⊥
+apart κ t tree y p h x z q = tree .rest y p h .notRoot (sym (equal-label q) ∙ ap (λ (k : ℕ). t .label k) z ∙ tree .root)
 
+module _ (κ : ℕ → Class) (t : Table) (tree : IsTree κ t) (class : List ℕ) (i : ℕ) (low : i ≤ 1) (c : ClassedFrom κ t class i) where
   pub classed-all : ParentsSmaller t → Classed κ t class
   classed-all small =
       record {
@@ -227,8 +228,8 @@ module _ (κ : ℕ → Class) (t : Table) (tree : IsTree κ t) (class : List ℕ
 
       equal-it : (x y : ℕ) → x < t .size → y < t .size → Equal κ t x y → Dec (x ≡ 0) → Dec (y ≡ 0) → getD class x 0 ≡ getD class y 0
       equal-it x y h g q (yes z) (yes w) = ap (λ (k : ℕ). getD class k 0) (z ∙ sym w)
-      equal-it x y h g q (yes z) (no m) = absurd (apart y (omega arith) g x z q)
-      equal-it x y h g q (no n) (yes w) = absurd (apart x (omega arith) h y w (equal-symmetric q))
+      equal-it x y h g q (yes z) (no m) = absurd (apart κ t tree y (omega arith) g x z q)
+      equal-it x y h g q (no n) (yes w) = absurd (apart κ t tree x (omega arith) h y w (equal-symmetric q))
       equal-it x y h g q (no n) (no m) = c .one x y (omega arith) h (omega arith) g q
 
 pub classed-at : (κ : ℕ → Class) (t : Table) (class : List ℕ) (j : ℕ) → 1 < j → ClassedFrom κ t class j → ClassedFrom κ t class (j - 1 + 1)
