@@ -1,5 +1,5 @@
 -- What the readers found, put into the laws of `theory_checks`.
-use Prim.Native.Nat.{ℕ, _≤_, _<_}
+use Prim.Native.Nat.{ℕ, _+_, _≤_, _<_}
 use mathlib.Core.Path.{_≡_, refl, sym, _∙_, ap, ap₂, subst}
 use mathlib.Core.Bool.{Bool, true, false}
 use mathlib.Core.List.{List, [], _∷_, _++_}
@@ -21,6 +21,7 @@ use Rattle.answers.specs.Cases.{meant, outcomeOf, usedOf}
 use Rattle.answers.specs.Outcomes.{outcome-refused, outcome-fine}
 use Rattle.records.specs.ProfileWalks.{ProfileSays}
 use Rattle.theory_operations.specs.Refusing.{sound-number}
+use Rattle.writing.specs.Wrote.{Wrote, wrote-front}
 use Rattle.theory_checks.specs.Profiles.{rewrite-small, rewrite-refused, rewrite-accepted, body-refused, body-accepted}
 use Rattle.theory_checks.specs.Paths.{pathNumberBy, path-number}
 use Rattle.theory_paths.specs.Good.{GoodLabels}
@@ -46,14 +47,14 @@ module _ {profile classes : List ℕ} {judged : Judged} {labels keys : ℕ} (say
   pub rewrite-stops : {r : Refusal} (buffer : List ℕ) → 65536 ≤ length buffer → o ≡ O.Refused r → Rewrites profile buffer (refusedBy (meant r) buffer)
   rewrite-stops {r} buffer h k = rewrite-refused profile buffer (meant r) h (refused-is k) (refused-names k)
 
-  pub rewrite-fills : (buffer after : List ℕ) → 65536 ≤ length buffer → o ≡ O.Fine → after ≡ profile ++ drop (length profile) buffer
-      → Rewrites profile buffer (record { verdict = rewritten; number = 0; input = 0; place = 0; used = length profile; buffer = after })
+  pub rewrite-fills : {buffer after : List ℕ} {used : ℕ} → 65536 ≤ length buffer → o ≡ O.Fine → Wrote buffer after 0 profile used
+      → Rewrites profile buffer (usedOf rewritten used after)
   unfolding filled
-  rewrite-fills buffer after h k a =
-      subst (λ (b : List ℕ). Rewrites profile buffer (record { verdict = rewritten; number = 0; input = 0; place = 0; used = length profile; buffer = b })) (sym a)
-      (rewrite-accepted profile buffer h (fine-is k))
+  rewrite-fills {buffer} h k wrote =
+      let w = wrote-front wrote in
+      subst (Rewrites profile buffer) (ap₂ (λ (n : ℕ) (b : List ℕ). usedOf rewritten n b) (sym (w .0)) (sym (w .1))) (rewrite-accepted profile buffer h (fine-is k))
 
-  pub fits-answer : (buffer : List ℕ) → 65536 ≤ length buffer → o ≡ O.Fine → length profile ≤ length buffer
+  pub fits-answer : (buffer : List ℕ) → 65536 ≤ length buffer → o ≡ O.Fine → 0 + length profile ≤ length buffer
   fits-answer buffer h k = let s = Rattle.theory_records.specs.Profiles.profile-accepts profile (sound-number (fine-is k)) .size in omega arith
 
 pub small-rewrites : (profile buffer : List ℕ) (r : Refusal) → length buffer < 65536 → meant r ≡ record { number = 14; input = 4; place = 0 }

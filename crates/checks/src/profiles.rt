@@ -10,25 +10,11 @@ use places::record_at;
 use records::profile::read_profile;
 use shapes::fields::HEAD_BYTES;
 use shapes::fields::word;
-ghost use Prim.Native.Nat.{_≤_};
+use writing::put;
 ghost use mathlib.Core.Path.{_≡_};
-ghost use mathlib.Core.List.{_++_};
-ghost use lib.ListN.{length, drop};
 ghost use Rattle.meaning.specs.Records.{recordBody};
 ghost use Rattle.meaning.specs.Operations.{Rewrites, bodyAt};
 ghost use Rattle.answers.specs.Cases.{rewritingAnswer};
-
-// Puts the bytes at the front of out.
-fn copy_front(bytes: &[u8], out: &mut [u8])
-    requires { ⌜ length (now bytes) ≤ length (now out) ⌝ }
-    ensures { λ _. ⌜ now (out .exit) ≡ now (bytes .entry) ++ drop (length (now (bytes .entry))) (now (out .entry)) ⌝ }
-{
-    let mut i = 0;
-    while i < bytes.len() {
-        out[i] = bytes[i];
-        i += 1;
-    }
-}
 
 // On acceptance the profile's own bytes stand at the front of the answer buffer and every byte behind them stays; a refusal changes no byte.
 pub fn rewrite(profile: &[u8], answer: &mut [u8]) -> Rewriting
@@ -43,8 +29,8 @@ pub fn rewrite(profile: &[u8], answer: &mut [u8]) -> Rewriting
     match outcome {
         Outcome::Refused(refusal) => Rewriting::Refused(refusal),
         Outcome::Fine => {
-            copy_front(profile, answer);
-            Rewriting::Rewritten(profile.len())
+            let used = put(answer, 0, profile);
+            Rewriting::Rewritten(used)
         }
     }
 }

@@ -15,7 +15,7 @@ use Rattle.meaning.specs.Records.{wordBytes, recordBytes, pathBytes, keyBody, l
 use Rattle.shapes.specs.Parts.{holdsPath, leadPath, afterPath, pathsEnd, pathsOf}
 use Rattle.theory_derive.specs.Written.{keyOf, twoLine}
 use Rattle.theory_derive.specs.Parts.{norm-length}
-use Rattle.line_writing.specs.Wrote.{Wrote, wrote-more, wrote-is, wrote-part, wrote-two}
+use Rattle.writing.specs.Wrote.{Wrote, wrote-more, wrote-is, wrote-part, wrote-two}
 
 unfoldable pub lineHead : (size rule first second : ℕ) → List ℕ
 lineHead size rule first second = wordBytes size ++ (wordBytes lineKind ++ ((rule ∷ []) ++ (wordBytes first ++ wordBytes second)))

@@ -10,7 +10,7 @@ use lib.ListN.{length, getD, drop, set, length-append, drop-of-length-le}
 use lib.Seq.{drop-cons}
 use borrow.Author.Tests.{eq-eqb, ne-eqb, not-true, not-false}
 use Rattle.meaning.specs.Paths.{norm}
-use Rattle.line_writing.specs.Wrote.{Wrote, wrote-none, wrote-then-byte, wrote-is}
+use Rattle.writing.specs.Wrote.{Wrote, wrote-none, wrote-then-byte, wrote-is}
 
 -- two any-paths stand at the front
 unfoldable pub leadsDoubled : List ℕ → Bool

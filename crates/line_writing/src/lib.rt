@@ -1,6 +1,7 @@
 // The bytes of one proof line, written into a lent buffer from a place on: document 01, "Records", kind 4. What stands before and behind stays.
 use shapes::bodies::LINE_KIND;
 use shapes::fields::BYTE;
+use writing::put;
 ghost use mathlib.Core.Path.{_≡_};
 ghost use mathlib.Core.Bool.{Bool, true};
 ghost use mathlib.Core.List.{List, [], _∷_, _++_};
@@ -10,7 +11,7 @@ ghost use Rattle.meaning.specs.Paths.{norm};
 ghost use Rattle.meaning.specs.Records.{wordBytes, pathBytes, lineBytes};
 ghost use Rattle.shapes.specs.Parts.{pathsEnd, pathsOf};
 ghost use Rattle.theory_derive.specs.Written.{keyOf, twoLine};
-ghost use Rattle.line_writing.specs.Wrote.{Wrote};
+ghost use Rattle.writing.specs.Wrote.{Wrote};
 ghost use Rattle.line_writing.specs.Normals.{doubledAny};
 ghost use Rattle.line_writing.specs.LineParts.{Sized, lineHead, keyPart, LineFits, WroteLine};
 
@@ -20,19 +21,6 @@ const HEAD_AND_FIELDS: usize = 9;
 const KEY_LENGTHS: usize = 3;
 // "In a proof line, C and T may have 32 symbols"
 const LINE_PATH: usize = 32;
-
-// The bytes as they are.
-pub fn put(out: &mut [u8], at: usize, bytes: &[u8]) -> usize
-    requires { ⌜ at + length (now bytes) ≤ length (now out) ⌝ }
-    ensures { λ r. ⌜ Wrote (now (out .entry)) (now (out .exit)) at (now (bytes .entry)) r ⌝ }
-{
-    let mut i = 0;
-    while i < bytes.len() {
-        out[at + i] = bytes[i];
-        i += 1;
-    }
-    at + i
-}
 
 // A number that fits a byte.
 pub fn put_number(out: &mut [u8], at: usize, n: usize) -> usize

@@ -3,7 +3,6 @@ use Prim.Native.Nat.{ℕ, _≤_, _<_}
 use mathlib.Core.Path.{_≡_, refl, sym, _∙_, ap, ap₂, subst}
 use mathlib.Core.List.{List, [], _∷_, _++_}
 use native.Mathlib.Omega.{arith}
-use native.Mathlib.Nat.{zero-add}
 use lib.ListN.{length, drop}
 use Rattle.meaning.specs.Paths.{Label}
 use Rattle.meaning.specs.Refusals.{sound, treeRefusal, nodesIn}
@@ -24,7 +23,7 @@ use Rattle.theory_records.specs.Profiles.{accepted-labels}
 use Rattle.theory_checks.specs.Listings.{list-small, list-profile, list-tree, list-block}
 use Rattle.theory_files.specs.Files.{class-same, file-table, tree-bytes}
 use Rattle.tree_nodes.specs.FileTable.{fileTable, TreeBytes}
-use Rattle.tree_listing.specs.Written.{Wrote, written}
+use Rattle.writing.specs.Wrote.{Wrote, wrote-front}
 use Rattle.tree_listing.specs.Lines.{blockOf, block-is}
 use Rattle.checks.specs.Found.{Ready, Tables, refused-is, refused-names}
 
@@ -37,11 +36,6 @@ pub list-stops : {profile classes : List ℕ} {judged : Judged} {labels keys : �
     → o ≡ outcomeOf 1 judged → {r : Refusal} (tree : List ℕ) (k : ℕ) (buffer : List ℕ) → 65536 ≤ length buffer → o ≡ O.Refused r
     → Lists profile tree k buffer (refusedBy (meant r) buffer)
 list-stops {profile} says e {r} tree k buffer h x = list-profile profile tree k buffer h (meant r) (refused-is says e x) (refused-names says e x)
-
--- what is written at the front: its length, and the bytes with the rest behind them
-wrote-front : {out after v : List ℕ} {used : ℕ} → Wrote out after 0 v used → (used ≡ length v) × (after ≡ v ++ drop (length v) out)
-unfolding written
-wrote-front {out} {after} {v} {used} w = (w .after ∙ zero-add (length v), w .bytes ∙ ap (λ (n : ℕ). v ++ drop n out) (zero-add (length v)))
 
 module _ (tree classes : List ℕ) (judged : Judged) (says : (labels : List Label) → Tabled labels classes → refusalOf 3 judged ≡ treeRefusal labels tree)
     {o : Outcome} (e : o ≡ outcomeOf 3 judged) where

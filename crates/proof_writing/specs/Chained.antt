@@ -20,7 +20,7 @@ use Rattle.theory_paths.specs.Normal.{norm-of-normal}
 use Rattle.theory_derive.specs.Logic.{less-or, found-below, found-mem}
 use Rattle.theory_derive.specs.Spots.{Taken as Step, Fires, Chain, begun, taken}
 use Rattle.theory_derive.specs.Written.{stepLines, takenLines, linesFrom, proofLines}
-use Rattle.line_writing.specs.Wrote.{written}
+use Rattle.writing.specs.Wrote.{written}
 use Rattle.step_writing.specs.Fits.{KeyBody, key-fits}
 use Rattle.step_writing.specs.Lines.{WroteLines, bytesOfLines}
 use Rattle.steps.specs.declared.firing.Taken.{Taken}

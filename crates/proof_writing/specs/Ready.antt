@@ -10,7 +10,7 @@ use Rattle.meaning.specs.Operations.{recordsFrom}
 use Rattle.meaning.specs.Pattern.{tOf}
 use Rattle.theory_derive.specs.Spots.{Taken as Step, chainOf, branchOf, lineOf}
 use Rattle.theory_derive.specs.Lines.{chain-length}
-use Rattle.line_writing.specs.Wrote.{Wrote, wrote-more, wrote-is, wrote-part}
+use Rattle.writing.specs.Wrote.{Wrote, wrote-more, wrote-is, wrote-part}
 use Rattle.step_writing.specs.Fits.{KeyBody}
 use Rattle.step_writing.specs.StepFits.{OpeningFits, StepFits}
 use Rattle.proof_writing.specs.Derived.{KeyNormal}

@@ -16,7 +16,7 @@ use Rattle.meaning.specs.Pattern.{tOf}
 use Rattle.theory_derive.specs.Spots.{Taken as Step, chainOf, lineOf, holdsEmpty}
 use Rattle.theory_derive.specs.Lines.{chain-length}
 use Rattle.theory_derive.specs.Written.{keyOf, keyAt, oneLine, stepLines}
-use Rattle.line_writing.specs.Wrote.{Wrote, wrote-more, wrote-part}
+use Rattle.writing.specs.Wrote.{Wrote, wrote-more, wrote-part}
 use Rattle.step_writing.specs.Fits.{KeyBody, OfKeyFits}
 use Rattle.step_writing.specs.Lines.{WroteLines, lines-more, lines-is, lines-none}
 use Rattle.step_writing.specs.StepLines.{openingOf, unitedBy, chainLinesOf, endLinesOf, emptyLinesOf}

@@ -1,5 +1,4 @@
 // The proof that the decider writes: ARGUMENT, section 5. "Take every remembered step, last first".
-use line_writing::put;
 use places::front_length;
 use places::record_at;
 use shapes::fields::HEAD_BYTES;
@@ -16,6 +15,7 @@ use step_writing::single::holds_empty;
 use step_writing::single::write_of_key;
 use steps::firing::Taken;
 use steps::search::MOST_STEPS;
+use writing::put;
 ghost use mathlib.Core.Path.{_≡_};
 ghost use mathlib.Core.List.{[], _∷_};
 ghost use Prim.Native.Nat.{_+_, _≤_, _<_};
@@ -25,7 +25,7 @@ ghost use Rattle.theory_derive.specs.Spots.{lineOf};
 ghost use Rattle.theory_derive.specs.Written.{stepLines};
 ghost use Rattle.steps.specs.Finding.{stepsBelow};
 ghost use Rattle.steps.specs.Ranges.{stepOf};
-ghost use Rattle.line_writing.specs.Wrote.{Wrote};
+ghost use Rattle.writing.specs.Wrote.{Wrote};
 ghost use Rattle.step_writing.specs.Fits.{KeyBody};
 ghost use Rattle.step_writing.specs.Lines.{WroteLines};
 ghost use Rattle.proof_writing.specs.Ready.{AskedLine, OnLine, SpotReady, StepRoom, TakenReady, ProofReady};

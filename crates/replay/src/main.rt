@@ -4,6 +4,7 @@
 // An answer is a line as the programs print it; where the line ends in a number of bytes, they follow. `not here` stands for an operation or a room
 // that this program does not have, `changed` for an operation that changed a byte of the answer buffer behind those it used.
 use answers::Checking;
+use answers::Deciding;
 use answers::Inclusion;
 use answers::Keeping;
 use answers::Listing;
@@ -34,6 +35,8 @@ const KEEP: u8 = 4;
 const CHECK_PROOF: u8 = 5;
 
 const CHECK_TREE: u8 = 6;
+
+const DECIDE: u8 = 7;
 
 const LIST: u8 = 8;
 
@@ -94,10 +97,22 @@ fn list(profile: &[u8], tree: &[u8], block: usize, answer: &mut [u8]) {
     }
 }
 
+fn decide(profile: &[u8], question: &[u8], answer: &mut [u8]) {
+    let decided = culvertecho::decide(profile, question, answer);
+    match decided {
+        Deciding::Refused(refusal) => refused(refusal, answer),
+        Deciding::Implied(used) => filled(b"implied", used, answer),
+        Deciding::NotImplied(used) => filled(b"not implied", used, answer),
+    }
+}
+
 // The operations that fill an answer buffer: one `if` for each.
-fn answer_filling(case: Case, first: &[u8], third: &[u8], answer: &mut [u8]) {
+fn answer_filling(case: Case, first: &[u8], second: &[u8], third: &[u8], answer: &mut [u8]) {
     if case.operation == REWRITE {
         return rewrite(first, answer);
+    }
+    if case.operation == DECIDE {
+        return decide(first, second, answer);
     }
     if case.operation == LIST {
         return list(first, third, case.number, answer);
@@ -122,7 +137,7 @@ fn answer_inputs(case: Case, first: &[u8], second: &[u8], third: &[u8], answer: 
     if case.operation == CHECK_TREE {
         return checked(check_counterexample(first, second, third));
     }
-    answer_filling(case, first, third, answer);
+    answer_filling(case, first, second, third, answer);
 }
 
 // Lends as much of the answer buffer as the case says.

@@ -7,7 +7,7 @@ use native.Mathlib.Omega.{arith}
 use lib.ListN.{length, take, drop, length-append, length-map}
 use Rattle.meaning.specs.Records.{pathBytes}
 use Rattle.shapes.specs.Parts.{holdsPath, leadPath, afterPath, pathsEnd, pathsOf}
-use Rattle.line_writing.specs.Wrote.{Wrote, wrote-more, wrote-part, wrote-none, wrote-is}
+use Rattle.writing.specs.Wrote.{Wrote, wrote-more, wrote-part, wrote-none, wrote-is}
 use Rattle.line_writing.specs.LineParts.{Sized, paths-number}
 use Rattle.set_writing.specs.Encoded.{SetIn, set-in, bytesOf, bytes-append}
 use Rattle.set_writing.specs.Places.{some-left, rest-left, paths-left, path-length}

@@ -8,7 +8,7 @@ use lib.ListN.{length, take, drop, length-append, length-drop}
 use lib.Seq.{take-at, length-take-le, take-take, take-nil}
 use Rattle.meaning.specs.Records.{pathBytes}
 use Rattle.shapes.specs.Parts.{pathsEnd, pathsOf}
-use Rattle.line_writing.specs.Wrote.{Wrote, written, wrote-more, wrote-part}
+use Rattle.writing.specs.Wrote.{Wrote, written, wrote-more, wrote-part}
 use Rattle.line_writing.specs.LineParts.{Sized, paths-number}
 use Rattle.theory_derive.specs.Sets.{insert}
 use Rattle.set_writing.specs.Encoded.{SetIn, set-in, bytesOf}

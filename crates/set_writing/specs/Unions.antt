@@ -7,7 +7,7 @@ use native.Mathlib.Omega.{arith}
 use lib.ListN.{length, take, drop, length-drop, drop-of-length-le}
 use borrow.Rule.Slice.PartAt.{part-to-end}
 use Rattle.shapes.specs.Parts.{holdsPath, leadPath, afterPath, pathsEnd, pathsOf}
-use Rattle.line_writing.specs.Wrote.{Wrote, wrote-part}
+use Rattle.writing.specs.Wrote.{Wrote, wrote-part}
 use Rattle.line_writing.specs.LineParts.{paths-number}
 use Rattle.theory_derive.specs.Sets.{insert, unite}
 use Rattle.set_writing.specs.Encoded.{SetIn}

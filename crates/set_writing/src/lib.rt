@@ -1,11 +1,11 @@
 // Sets of key paths in a lent buffer, each as its count and its bytes: document 01, "Key paths stand shorter first, equal lengths by bytes, none twice".
 use key_shapes::order::before;
-use line_writing::put;
 use line_writing::put_number;
 use line_writing::put_path;
 use shapes::bodies::after_path;
 use shapes::bodies::lead_path;
 use shapes::names::same_bytes;
+use writing::put;
 ghost use mathlib.Core.Path.{_≡_};
 ghost use mathlib.Core.Bool.{true};
 ghost use mathlib.Core.List.{List, map, _++_};

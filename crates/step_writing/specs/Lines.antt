@@ -6,7 +6,7 @@ use native.Mathlib.Omega.{arith}
 use lib.ListN.{length, length-append}
 use Rattle.meaning.specs.Rules.{Line}
 use Rattle.meaning.specs.Records.{lineBytes}
-use Rattle.line_writing.specs.Wrote.{Wrote, wrote-more, wrote-is, wrote-none}
+use Rattle.writing.specs.Wrote.{Wrote, wrote-more, wrote-is, wrote-none}
 use Rattle.line_writing.specs.LineParts.{WroteLine}
 
 unfoldable pub bytesOfLines : List Line → List ℕ

@@ -13,7 +13,7 @@ use Rattle.meaning.specs.Keys.{Key}
 use Rattle.meaning.specs.Records.{readKey, keyIn, isSome, pathBytes, lineBytes}
 use Rattle.shapes.specs.Parts.{holdsPath, leadPath, afterPath, pathsEnd, pathsOf}
 use Rattle.shapes.specs.KeyPaths.{AtPath}
-use Rattle.line_writing.specs.Wrote.{Wrote, wrote-part}
+use Rattle.writing.specs.Wrote.{Wrote, wrote-part}
 use Rattle.line_writing.specs.LineParts.{LineFits, WroteLine, Sized}
 use Rattle.set_writing.specs.Encoded.{SetIn, set-in, bytesOf}
 use Rattle.set_writing.specs.Places.{some-left, rest-left, paths-left}

@@ -10,7 +10,7 @@ use Rattle.meaning.specs.Keys.{Key}
 use Rattle.meaning.specs.Records.{keyIn, lineBytes}
 use Rattle.shapes.specs.Parts.{pathsEnd, pathsOf}
 use Rattle.shapes.specs.KeyPaths.{AtPath}
-use Rattle.line_writing.specs.Wrote.{Wrote, wrote-part}
+use Rattle.writing.specs.Wrote.{Wrote, wrote-part}
 use Rattle.line_writing.specs.LineParts.{WroteLine}
 use Rattle.set_writing.specs.Encoded.{SetIn}
 use Rattle.set_writing.specs.Unions.{UniteFits, United, unitedOf}

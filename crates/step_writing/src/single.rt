@@ -1,5 +1,4 @@
 // One proof line with a set that is made for it. `line` is a line of the asked key (ARGUMENT, section 4).
-use line_writing::put;
 use line_writing::put_number;
 use line_writing::put_path;
 use line_writing::write_line;
@@ -12,6 +11,7 @@ use shapes::bodies::after_path;
 use shapes::bodies::lead_path;
 use shapes::keys::count;
 use shapes::keys::paths;
+use writing::put;
 ghost use mathlib.Core.Path.{_≡_};
 ghost use mathlib.Core.Bool.{true};
 ghost use mathlib.Core.List.{List, [], _∷_};

@@ -1,5 +1,4 @@
 -- The listing's lines, as they are written into a lent buffer.
-pub mod Written
 pub mod Decimal
 pub mod Lines
 pub mod Blocks

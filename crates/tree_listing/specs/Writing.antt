@@ -12,22 +12,17 @@ use Rattle.meaning.specs.Limits.{blockLines}
 use Rattle.meaning.specs.Paths.{Class, isElement}
 use Rattle.meaning.specs.Trees.{Table}
 use Rattle.meaning.specs.Listing.{decimal}
-use Rattle.tree_listing.specs.Written.{Wrote, wrote-length, wrote-more, wrote-none, wrote-byte}
+use Rattle.writing.specs.Wrote.{Wrote, wrote-more, wrote-none, wrote-byte, wrote-then-byte, wrote-two}
 use Rattle.tree_listing.specs.Decimal.{decimal-one, decimal-more, four-digits, five-digits}
 use Rattle.tree_listing.specs.Lines.{field, field-length, lineOf, lineAt, headOf, line-short, head-short, blockOf}
 use Rattle.tree_listing.specs.Blocks.{shown, shown-none, shown-more, shown-all, block-past}
 
 -- as much room as there was, less what was written
 pub wrote-room : {out end v : List ℕ} {at next : ℕ} (k : ℕ) → Wrote out end at v next → at + length v + k ≤ length out → next + k ≤ length end
-wrote-room {out} {v = v} {at} k w h = let e = wrote-length w (omega arith) in let n = w .after in omega arith
-
-pub wrote-then-byte : {out mid v : List ℕ} {at next : ℕ} (b : ℕ) → Wrote out mid at v next → at + length v + 1 ≤ length out
-    → Wrote out (set mid next b) at (v ++ (b ∷ [])) (next + 1)
-wrote-then-byte {mid = mid} {next = next} b w h =
-    wrote-more w (wrote-byte mid next b (let r = wrote-room 1 w h in omega arith)) h
+wrote-room k w h = let e = w .kept in let n = w .after in omega arith
 
 pub wrote-digit : (out : List ℕ) (at n : ℕ) → n < 10 → at < length out → Wrote out (set out at (48 + n)) at (decimal n) (at + 1)
-wrote-digit out at n h r = subst (λ (v : List ℕ). Wrote out (set out at (48 + n)) at v (at + 1)) (sym (decimal-one n h)) (wrote-byte out at (48 + n) r)
+wrote-digit out at n h r = subst (λ (v : List ℕ). Wrote out (set out at (48 + n)) at v (at + 1)) (sym (decimal-one n h)) (wrote-byte out at (48 + n) (omega arith))
 
 module _ {out mid : List ℕ} {at next : ℕ} (n : ℕ) (small : n < 65536) (more : 10 ≤ n) (room : at + 5 ≤ length out)
     (w : Wrote out mid at (decimal (n / 10)) next) where
@@ -56,26 +51,7 @@ pub field-dash : (out : List ℕ) (at : ℕ) (b : Bool) (n end : ℕ) → b ≡ 
 unfolding field
 field-dash out at b n end e room =
     subst (λ (c : Bool). Wrote out (set (set out at 45) (at + 1) end) at (field c n end) (at + 2)) (sym e)
-    (let two : at + 1 + 1 ≡ at + 2 = omega arith in
-    subst (Wrote out (set (set out at 45) (at + 1) end) at (45 ∷ end ∷ [])) two
-    (wrote-then-byte end (wrote-byte out at 45 (omega arith)) (omega arith)))
-
--- bytes one after another
-pub bytes-none : (out : List ℕ) (at : ℕ) → at ≤ length out → Wrote out out at [] (at + 0)
-bytes-none out at h = let e : at ≡ at + 0 = omega arith in subst (Wrote out out at []) e (wrote-none out at h)
-
-pub bytes-more : (out mid : List ℕ) (at i : ℕ) (bytes : List ℕ) → i < length bytes → at + length bytes ≤ length out
-    → Wrote out mid at (take i bytes) (at + i)
-    → Wrote out (set mid (at + i) (getD bytes i 0)) at (take (i + 1) bytes) (at + (i + 1))
-bytes-more out mid at i bytes h room w =
-    let e : at + i + 1 ≡ at + (i + 1) = omega arith in
-    let l = length-take-le i bytes (omega arith) in
-    subst (Wrote out (set mid (at + i) (getD bytes i 0)) at (take (i + 1) bytes)) e
-    (subst (λ (v : List ℕ). Wrote out (set mid (at + i) (getD bytes i 0)) at v (at + i + 1))
-    (sym (ap (λ (n : ℕ). take n bytes) (add-one i) ∙ take-suc bytes i 0 h)) (wrote-then-byte (getD bytes i 0) w (omega arith)))
-
-pub bytes-all : (out mid : List ℕ) (at i : ℕ) (bytes : List ℕ) → length bytes ≤ i → Wrote out mid at (take i bytes) (at + i) → Wrote out mid at bytes (at + i)
-bytes-all out mid at i bytes h w = subst (λ (v : List ℕ). Wrote out mid at v (at + i)) (take-all i bytes h) w
+    (wrote-two out at 45 end (omega arith))
 
 -- A line written: it has at most 24 bytes
 pub record WroteLine (out end : List ℕ) (at : ℕ) (v : List ℕ) (next : ℕ) : Type 0 where
@@ -92,16 +68,7 @@ module _ {o a b c d : List ℕ} {at p q r s : ℕ} (κ : ℕ → Class) (t : Tab
     (w : Wrote o a at (field true x 32) p) (w₂ : Wrote a b p (field child above 32) q) (w₃ : Wrote b c q (field true l 32) r)
     (w₄ : Wrote c d r (field leaf v 10) s) where
   line-joined : Wrote o d at (field true x 32 ++ (field child above 32 ++ (field true l 32 ++ field leaf v 10))) s
-  line-joined =
-      let m = field-length true x 32 small in
-      let m₂ = field-length child above 32 above-small in
-      let m₃ = field-length true l 32 (omega arith) in
-      let m₄ = field-length leaf v 10 v-small in
-      let g = field-after 18 true x 32 small (omega arith) w in
-      let g₂ = field-after 12 child above 32 above-small (omega arith) w₂ in
-      let e₃ = length-append (field true l 32) (field leaf v 10) in
-      let e₂ = length-append (field child above 32) (field true l 32 ++ field leaf v 10) in
-      wrote-more w (wrote-more w₂ (wrote-more w₃ w₄ (omega arith)) (omega arith)) (omega arith)
+  line-joined = wrote-more w (wrote-more w₂ (wrote-more w₃ w₄))
 
   pub line-wrote : above ≡ t .parent x → child ≡ not (eqb x 0) → l ≡ t .label x → leaf ≡ not (isElement (κ l)) → v ≡ t .value x
       → WroteLine o d at (lineOf κ t x) s
@@ -123,7 +90,7 @@ head-wrote {o} {b = b} {at = at} {q = q} κ t n e small room f w w₂ =
     let l = field-length true n 10 small in
     let m = ap length f in
     record {
-      wrote = subst (λ (y : List ℕ). Wrote o b at y q) (ap₂ (λ (y : List ℕ) (k : ℕ). y ++ field true k 10) f e) (wrote-more w w₂ (omega arith));
+      wrote = subst (λ (y : List ℕ). Wrote o b at y q) (ap₂ (λ (y : List ℕ) (k : ℕ). y ++ field true k 10) f e) (wrote-more w w₂);
       short = let h = head-short κ t (omega arith) in omega arith;
     }
 
@@ -144,7 +111,7 @@ module _ (κ : ℕ → Class) (t : Table) where
       → Wrote o a 0 (shown κ t start i) at → WroteLine a b at (lineAt κ t i) p → Wrote o b 0 (shown κ t start (i + 1)) p
   block-more {o} {b = b} {p = p} start i low high room w l =
       subst (λ (v : List ℕ). Wrote o b 0 v p) (sym (shown-more κ t start i low high))
-      (wrote-more w (l .wrote) (let s = l .short in let e = w .after in omega arith))
+      (wrote-more w (l .wrote))
 
   pub block-all : {o a : List ℕ} {at : ℕ} (k i : ℕ) → blockLines * k ≤ i → i ≤ blockLines * k + blockLines
       → ((i < t .size + 1) → i ≡ blockLines * k + blockLines) → Wrote o a 0 (shown κ t (blockLines * k) i) at → Wrote o a 0 (blockOf κ t k) at

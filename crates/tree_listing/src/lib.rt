@@ -4,13 +4,14 @@ use tree_nodes::fields::label;
 use tree_nodes::fields::parent;
 use tree_nodes::fields::size;
 use tree_nodes::fields::value;
+use writing::put;
 ghost use mathlib.Core.Path.{_≡_};
 ghost use mathlib.Core.Bool.{Bool};
 ghost use Prim.Native.Nat.{_+_, _*_, _<_, _≤_};
 ghost use lib.ListN.{length};
 ghost use Rattle.meaning.specs.Listing.{decimal};
 ghost use Rattle.tree_nodes.specs.FileTable.{fileTable, classBy, TreeBytes};
-ghost use Rattle.tree_listing.specs.Written.{Wrote};
+ghost use Rattle.writing.specs.Wrote.{Wrote};
 ghost use Rattle.tree_listing.specs.Writing.{WroteLine};
 ghost use Rattle.tree_listing.specs.Lines.{field, headOf, lineOf, lineAt, blockOf};
 
@@ -57,24 +58,12 @@ fn put_field(out: &mut [u8], at: usize, shown: bool, n: usize, end: u8) -> usize
     at + 2
 }
 
-fn put_bytes(out: &mut [u8], at: usize, bytes: &[u8]) -> usize
-    requires { ⌜ at + length (now bytes) ≤ length (now out) ⌝ }
-    ensures { λ r. ⌜ Wrote (now (out .entry)) (now (out .exit)) at (now (bytes .entry)) r ⌝ }
-{
-    let mut i = 0;
-    while i < bytes.len() {
-        out[at + i] = bytes[i];
-        i += 1;
-    }
-    at + i
-}
-
 // "First line: the word nodes and their number."
 fn put_head(out: &mut [u8], at: usize, tree: &[u8], classes: &[u8; 256]) -> usize
     requires { ⌜ TreeBytes (now classes) (now tree) × (at + 24 ≤ length (now out)) ⌝ }
     ensures { λ r. ⌜ WroteLine (now (out .entry)) (now (out .exit)) at (headOf (fileTable (now (tree .entry)))) r ⌝ }
 {
-    let next = put_bytes(out, at, b"nodes ");
+    let next = put(out, at, b"nodes ");
     put_field(out, next, true, size(tree), NEWLINE)
 }
 

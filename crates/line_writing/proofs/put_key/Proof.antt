@@ -4,7 +4,7 @@ use Rattle.line_writing.proofs.put_key.Statement.{statement}
 use Rattle.line_writing.proofs.put_key.Tie as tie
 use Rattle.line_writing.proofs.put_key.Reads as reads
 use Rattle.line_writing.proofs.put_key.Lts as lts
-use Rattle.line_writing.proofs.put.Reads as put-reads
+use Rattle.writing.proofs.put.Reads as put-reads
 use Rattle.line_writing.proofs.put_number.Reads as put-number-reads
 use Rattle.line_writing.proofs.put_path.Reads as put-path-reads
 

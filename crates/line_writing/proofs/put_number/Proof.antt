@@ -1,4 +1,4 @@
-use Rattle.line_writing.specs.Wrote.{wrote-byte}
+use Rattle.writing.specs.Wrote.{wrote-byte}
 use native.Mathlib.Omega.{arith}
 use borrow.Author.Needs.{needs}
 use Rattle.line_writing.proofs.put_number.Statement.{statement}

@@ -4,7 +4,7 @@ use Rattle.line_writing.proofs.put_path.Statement.{statement}
 use Rattle.line_writing.proofs.put_path.Tie as tie
 use Rattle.line_writing.proofs.put_path.Reads as reads
 use Rattle.line_writing.proofs.put_path.Lts as lts
-use Rattle.line_writing.proofs.put.Reads as put-reads
+use Rattle.writing.proofs.put.Reads as put-reads
 use Rattle.line_writing.proofs.put_number.Reads as put-number-reads
 
 -- src/lib.rt:62:9

@@ -1,7 +1,7 @@
 use denote.Ref.{now}
 use native.Mathlib.Omega.{arith}
 use Rattle.theory_derive.specs.Parts.{norm-length}
-use Rattle.line_writing.specs.Wrote.{part-length}
+use Rattle.writing.specs.Wrote.{part-length}
 use Rattle.line_writing.specs.LineParts.{line-wrote}
 use mathlib.Core.Path.{sym}
 use borrow.Author.Needs.{needs}

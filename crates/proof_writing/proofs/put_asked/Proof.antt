@@ -6,7 +6,7 @@ use Rattle.proof_writing.proofs.put_asked.Statement.{statement}
 use Rattle.proof_writing.proofs.put_asked.Tie as tie
 use Rattle.proof_writing.proofs.put_asked.Reads as reads
 use Rattle.proof_writing.proofs.put_asked.Lts as lts
-use Rattle.line_writing.proofs.put.Reads as put-reads
+use Rattle.writing.proofs.put.Reads as put-reads
 use Rattle.shapes.proofs.keys.context.Reads as context-reads
 use Rattle.shapes.proofs.keys.path.Reads as path-reads
 use Rattle.shapes.proofs.keys.target.Reads as target-reads

@@ -1,5 +1,5 @@
 use Rattle.proof_writing.specs.Whole.{first-fits, first-wrote}
-use Rattle.line_writing.specs.Wrote.{wrote-more, part-length}
+use Rattle.writing.specs.Wrote.{wrote-more, part-length}
 use lib.ListN.{length}
 use mathlib.Core.Path.{sym, ap}
 use native.Mathlib.Omega.{arith}
@@ -8,7 +8,7 @@ use Rattle.proof_writing.proofs.write_first.Statement.{statement}
 use Rattle.proof_writing.proofs.write_first.Tie as tie
 use Rattle.proof_writing.proofs.write_first.Reads as reads
 use Rattle.proof_writing.proofs.write_first.Lts as lts
-use Rattle.line_writing.proofs.put.Reads as put-reads
+use Rattle.writing.proofs.put.Reads as put-reads
 use Rattle.shapes.proofs.keys.context.Reads as context-reads
 use Rattle.shapes.proofs.keys.target.Reads as target-reads
 use Rattle.step_writing.proofs.single.write_of_key.Reads as write-of-key-reads

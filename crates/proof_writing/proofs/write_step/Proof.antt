@@ -1,6 +1,6 @@
 use Rattle.proof_writing.specs.Whole.{step-wrote}
 use Rattle.proof_writing.specs.Ready.{on-line}
-use Rattle.line_writing.specs.Wrote.{part-length}
+use Rattle.writing.specs.Wrote.{part-length}
 use mathlib.Core.Path.{sym}
 use borrow.Author.Needs.{needs}
 use Rattle.proof_writing.proofs.write_step.Statement.{statement}

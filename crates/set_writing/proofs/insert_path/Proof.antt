@@ -1,5 +1,5 @@
 use Rattle.set_writing.specs.Inserts.{inserted-held, inserted-new}
-use Rattle.line_writing.specs.Wrote.{part-length}
+use Rattle.writing.specs.Wrote.{part-length}
 use denote.Ref.{now}
 use lib.Seq.{length-take-le}
 use mathlib.Core.Bool.{false}
@@ -10,7 +10,7 @@ use Rattle.set_writing.proofs.insert_path.Statement.{statement}
 use Rattle.set_writing.proofs.insert_path.Tie as tie
 use Rattle.set_writing.proofs.insert_path.Reads as reads
 use Rattle.set_writing.proofs.insert_path.Lts as lts
-use Rattle.line_writing.proofs.put.Reads as put-reads
+use Rattle.writing.proofs.put.Reads as put-reads
 use Rattle.line_writing.proofs.put_path.Reads as put-path-reads
 use Rattle.set_writing.proofs.find_place.Reads as find-place-reads
 

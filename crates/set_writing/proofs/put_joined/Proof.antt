@@ -6,7 +6,7 @@ use Rattle.set_writing.proofs.put_joined.Statement.{statement}
 use Rattle.set_writing.proofs.put_joined.Tie as tie
 use Rattle.set_writing.proofs.put_joined.Reads as reads
 use Rattle.set_writing.proofs.put_joined.Lts as lts
-use Rattle.line_writing.proofs.put.Reads as put-reads
+use Rattle.writing.proofs.put.Reads as put-reads
 use Rattle.line_writing.proofs.put_number.Reads as put-number-reads
 
 -- src/lib.rt:117:40

@@ -7,7 +7,7 @@ use Rattle.set_writing.proofs.unite_beyond.Statement.{statement}
 use Rattle.set_writing.proofs.unite_beyond.Tie as tie
 use Rattle.set_writing.proofs.unite_beyond.Reads as reads
 use Rattle.set_writing.proofs.unite_beyond.Lts as lts
-use Rattle.line_writing.proofs.put.Reads as put-reads
+use Rattle.writing.proofs.put.Reads as put-reads
 use Rattle.set_writing.proofs.beyond.Reads as beyond-reads
 use Rattle.set_writing.proofs.insert_path.Reads as insert-path-reads
 use Rattle.shapes.proofs.bodies.after_path.Reads as after-path-reads

@@ -3,7 +3,7 @@ use mathlib.Core.Path.{_≡_, refl, _∙_}
 use native.Mathlib.Omega.{arith}
 use lib.ListN.{length}
 use Rattle.tree_nodes.specs.FileTable.{fileTable, classBy}
-use Rattle.tree_listing.specs.Written.{Wrote}
+use Rattle.writing.specs.Wrote.{Wrote}
 use Rattle.tree_listing.specs.Blocks.{shown}
 use Rattle.tree_listing.specs.Writing.{block-none, block-more, block-all, block-empty}
 use Rattle.tree_listing.proofs.put_block.Statement.{statement}

@@ -7,17 +7,17 @@ use Rattle.tree_listing.proofs.put_head.Statement.{statement}
 use Rattle.tree_listing.proofs.put_head.Tie as tie
 use Rattle.tree_listing.proofs.put_head.Reads as reads
 use Rattle.tree_listing.proofs.put_head.Lts as lts
-use Rattle.tree_listing.proofs.put_bytes.Reads as put-bytes-reads
+use Rattle.writing.proofs.put.Reads as put-reads
 use Rattle.tree_listing.proofs.put_field.Reads as put-field-reads
 use Rattle.tree_nodes.proofs.fields.size.Reads as size-reads
 
 -- src/lib.rt:68:35
-slice-aggregate-put-bytes : tie.Need-slice-aggregate-put-bytes
-slice-aggregate-put-bytes c = search needs
+slice-aggregate-put : tie.Need-slice-aggregate-put
+slice-aggregate-put c = search needs
 
 -- src/lib.rt:68:9
-put-bytes-requires : tie.Need-put-bytes-requires
-put-bytes-requires c κs = search needs
+put-requires : tie.Need-put-requires
+put-requires c κs = search needs
 
 -- src/lib.rt:69:32
 size-requires : tie.Need-size-requires
@@ -33,14 +33,14 @@ same-length c = search needs
 
 -- src/lib.rt:64:1
 returns : tie.Need-returns
-returns c = head-wrote (classBy (c .before .before .before .before .before .before .before .before .before .before .before .before .args .classes .now)) _ _ (c .before .before .before .size .ensures) (let f = c .before .before .before .before .before .before .before .before .before .before .before .before .pre .0 .few in let e = c .before .before .before .size .ensures in omega arith) (c .before .before .before .before .before .before .before .before .before .before .before .before .pre .1) refl (c .before .before .before .before .before .before .before .put-bytes .ensures) (c .before .before .put-field .ensures)
+returns c = head-wrote (classBy (c .before .before .before .before .before .before .before .before .before .before .before .before .args .classes .now)) _ _ (c .before .before .before .size .ensures) (let f = c .before .before .before .before .before .before .before .before .before .before .before .before .pre .0 .few in let e = c .before .before .before .size .ensures in omega arith) (c .before .before .before .before .before .before .before .before .before .before .before .before .pre .1) refl (c .before .before .before .before .before .before .before .put .ensures) (c .before .before .put-field .ensures)
 
 pub put-head-spec : {M : Type 1} → statement M
 put-head-spec =
     tie.close
     (tie.spec
-    slice-aggregate-put-bytes
-    put-bytes-requires
+    slice-aggregate-put
+    put-requires
     size-requires
     put-field-requires
     same-length

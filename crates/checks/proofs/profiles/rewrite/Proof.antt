@@ -1,5 +1,4 @@
 use native.Mathlib.Omega.{arith}
-use borrow.Author.Needs.{needs}
 use Rattle.checks.specs.Found.{small-rewrites, fits-answer, rewrite-stops, rewrite-fills}
 use borrow.Author.Needs.{needs}
 use Rattle.checks.proofs.profiles.rewrite.Statement.{statement}
@@ -8,7 +7,7 @@ use Rattle.checks.proofs.profiles.rewrite.Reads as reads
 use Rattle.checks.proofs.profiles.rewrite.Lts as lts
 use Rattle.answers.proofs.of_input.Reads as of-input-reads
 use Rattle.answers.proofs.small_answer.Reads as small-answer-reads
-use Rattle.checks.proofs.profiles.copy_front.Reads as copy-front-reads
+use Rattle.writing.proofs.put.Reads as put-reads
 use Rattle.records.proofs.profile.read_profile.Reads as read-profile-reads
 
 -- src/profiles.rt:38:35
@@ -36,8 +35,8 @@ enum-told : tie.Need-enum-told
 enum-told c = search needs
 
 -- src/profiles.rt:46:13
-copy-front-requires : tie.Need-copy-front-requires
-copy-front-requires c κs = search (fits-answer)
+put-requires : tie.Need-put-requires
+put-requires c κs = search (fits-answer)
 
 -- src/profiles.rt:34:1
 returns-2 : tie.Need-returns-2
@@ -61,7 +60,7 @@ rewrite-spec =
     of-input-requires
     enum-known-outcome
     enum-told
-    copy-front-requires
+    put-requires
     returns-2
     same-length
     returns-3)

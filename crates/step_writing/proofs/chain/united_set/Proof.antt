@@ -6,7 +6,7 @@ use Rattle.step_writing.proofs.chain.united_set.Statement.{statement}
 use Rattle.step_writing.proofs.chain.united_set.Tie as tie
 use Rattle.step_writing.proofs.chain.united_set.Reads as reads
 use Rattle.step_writing.proofs.chain.united_set.Lts as lts
-use Rattle.line_writing.proofs.put.Reads as put-reads
+use Rattle.writing.proofs.put.Reads as put-reads
 use Rattle.set_writing.proofs.unite_beyond.Reads as unite-beyond-reads
 use Rattle.shapes.proofs.keys.count.Reads as count-reads
 use Rattle.shapes.proofs.keys.paths.Reads as paths-reads

@@ -7,7 +7,7 @@ use Rattle.step_writing.proofs.single.key_with_empty.Statement.{stateme
 use Rattle.step_writing.proofs.single.key_with_empty.Tie as tie
 use Rattle.step_writing.proofs.single.key_with_empty.Reads as reads
 use Rattle.step_writing.proofs.single.key_with_empty.Lts as lts
-use Rattle.line_writing.proofs.put.Reads as put-reads
+use Rattle.writing.proofs.put.Reads as put-reads
 use Rattle.set_writing.proofs.insert_path.Reads as insert-path-reads
 use Rattle.shapes.proofs.keys.count.Reads as count-reads
 use Rattle.shapes.proofs.keys.paths.Reads as paths-reads

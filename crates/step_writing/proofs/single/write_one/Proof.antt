@@ -1,5 +1,5 @@
 use Rattle.step_writing.specs.Singles.{one-in, set-fits, set-wrote}
-use Rattle.line_writing.specs.Wrote.{part-length}
+use Rattle.writing.specs.Wrote.{part-length}
 use mathlib.Core.Path.{sym}
 use native.Mathlib.Omega.{arith}
 use borrow.Author.Needs.{needs}

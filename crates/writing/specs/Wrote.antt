@@ -3,6 +3,7 @@ use Prim.Native.Nat.{ℕ, zero, suc, _+_, _-_, _<_, _≤_}
 use mathlib.Core.Path.{_≡_, refl, sym, _∙_, ap, ap₂, subst}
 use mathlib.Core.List.{List, [], _∷_, _++_, append-assoc}
 use native.Mathlib.Omega.{arith}
+use native.Mathlib.Nat.{zero-add}
 use native.Mathlib.Numerals.{add-one}
 use lib.ListN.{length, getD, take, drop, set, length-append, length-take, length-drop, take-append-drop}
 use lib.Seq.{set-split, take-append-add, drop-append-add, take-at, drop-at, length-take-le, drop-drop, take-suc, take-all}
@@ -101,3 +102,8 @@ wrote-part {out} {end} {v} {next} w =
 
 pub part-length : {out end v : List ℕ} {next : ℕ} → Wrote out end 0 v next → length (take next end) ≡ next
 part-length w = ap length (wrote-part w) ∙ (omega arith)
+
+-- its length, and the bytes with the rest behind them
+pub wrote-front : {out after v : List ℕ} {used : ℕ} → Wrote out after 0 v used → (used ≡ length v) × (after ≡ v ++ drop (length v) out)
+unfolding written
+wrote-front {out} {v = v} w = (w .after ∙ zero-add (length v), w .bytes ∙ ap (λ (n : ℕ). v ++ drop n out) (zero-add (length v)))

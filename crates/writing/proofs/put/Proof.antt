@@ -1,13 +1,13 @@
 use Prim.Native.Nat.{_+_, _-_, _≤_}
 use mathlib.Core.Path.{_≡_, refl}
 use lib.ListN.{length, take, length-set}
-use Rattle.line_writing.specs.Wrote.{Wrote, bytes-none, bytes-more, bytes-all}
+use Rattle.writing.specs.Wrote.{Wrote, bytes-none, bytes-more, bytes-all}
 use borrow.Author.Needs.{needs}
 use native.Mathlib.Omega.{arith}
-use Rattle.line_writing.proofs.put.Statement.{statement}
-use Rattle.line_writing.proofs.put.Tie as tie
-use Rattle.line_writing.proofs.put.Reads as reads
-use Rattle.line_writing.proofs.put.Lts as lts
+use Rattle.writing.proofs.put.Statement.{statement}
+use Rattle.writing.proofs.put.Tie as tie
+use Rattle.writing.proofs.put.Reads as reads
+use Rattle.writing.proofs.put.Lts as lts
 
 abbrev Inv-loop : tie.InvT-loop
 Inv-loop out₀ at bytes i₀ out i = (i ≤ length bytes) × (length out ≡ length out₀) × Wrote out₀ out at (take i bytes) (at + i)

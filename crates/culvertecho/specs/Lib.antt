@@ -1,0 +1,2 @@
+-- One law for each `return` of the operation, over what the code has found there.
+pub mod Found

@@ -1,0 +1,39 @@
+// "decide a question": profile and question as inputs 1 and 2, the answer buffer as input 4. No `requires`: it takes arbitrary bytes and
+// refuses by the numbered table.
+use answers::ANSWER_BYTES;
+use answers::Deciding;
+use answers::Outcome;
+use answers::PROFILE;
+use answers::QUESTION;
+use answers::of_input;
+use answers::small_answer;
+use decider::decide_accepted;
+use records::profile::read_profile;
+use records::question::read_question;
+ghost use Rattle.meaning.specs.Operations.{Decides};
+ghost use Rattle.answers.specs.Cases.{decidingAnswer};
+
+// Implied, with a proof at the front of the buffer, exactly when every finite tree that keeps the profile keeps the asked key; else not
+// implied, with the tree that 01 fixes. Every byte behind those used stays, and a refusal changes none.
+pub fn decide(profile: &[u8], question: &[u8], answer: &mut [u8]) -> Deciding
+    ensures { λ r. ⌜ Decides (now (profile .entry)) (now (question .entry)) (now (answer .entry)) (decidingAnswer r (now (answer .exit))) ⌝ }
+{
+    if answer.len() < ANSWER_BYTES {
+        return Deciding::Refused(small_answer());
+    }
+    let read = read_profile(profile);
+    let judged = read.judged;
+    let first = of_input(judged, PROFILE);
+    if let Outcome::Refused(refusal) = first {
+        return Deciding::Refused(refusal);
+    }
+    let classes = read.classes;
+    let asked = read_question(question, &classes);
+    let second = of_input(asked, QUESTION);
+    if let Outcome::Refused(refusal) = second {
+        return Deciding::Refused(refusal);
+    }
+    let labels = read.labels;
+    let keys = read.keys;
+    decide_accepted(profile, labels, keys, question, &classes, answer)
+}

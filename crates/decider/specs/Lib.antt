@@ -1,0 +1,3 @@
+-- What the searching and the writing functions ask of accepted inputs, and one law for each return.
+pub mod Remembered
+pub mod Deciding

@@ -1,0 +1,67 @@
+-- An accepted profile's keys stand where the writing of a proof looks them up: `Remembers` of proof_writing.
+use Prim.Native.Nat.{ℕ, suc, _+_, _≤_, _<_}
+use mathlib.Core.Path.{_≡_, sym, _∙_, ap, subst}
+use mathlib.Core.List.{List}
+use native.Mathlib.Omega.{arith}
+use lib.ListN.{length, drop, length-drop}
+use Rattle.meaning.specs.Records.{recordLength, recordBody}
+use Rattle.meaning.specs.Refusals.{Profile, noProfile, firstOf, profileTests, profileNext, profileWalked, profileIn, profileRefusal, questionRefusal, questionIn}
+use Rattle.meaning.specs.Operations.{labelsIn, keysIn}
+use Rattle.theory_records.specs.Walks.{walk-keeps}
+use Rattle.theory_records.specs.Encodings.{ends-key}
+use Rattle.theory_records.specs.Places.{key-place}
+use Rattle.theory_records.specs.Profiles.{accepted-keys, profile-accepts, profile-long}
+use Rattle.theory_records.specs.Questions.{question-accepts}
+use Rattle.theory_derive.specs.Spots.{Chain}
+use Rattle.steps.specs.declared.search.Found.{Found}
+use Rattle.steps.specs.Finding.{stepsBelow}
+use Rattle.proof_writing.specs.Cited.{citedKey}
+use Rattle.proof_writing.specs.Chained.{Remembers}
+
+-- a walk has passed at most one record for each byte
+record Passed (bytes : List ℕ) (n : ℕ) (p : Profile) (rest : List ℕ) : Type 0 where
+  most : n + length rest ≤ length bytes
+
+passed-more : (bytes : List ℕ) (n : ℕ) (p : Profile) (l : List ℕ) → Passed bytes n p l → 0 < length l → firstOf (profileTests p l) ≡ 0
+    → Passed bytes (suc n) (profileNext p l) (drop (recordLength l) l)
+passed-more bytes n p l g h e =
+    let long = profile-long p l h e in
+    let left = length-drop (recordLength l) l in
+    record { most = let m = g .most in omega arith }
+
+walked-few : (bytes : List ℕ) → profileWalked bytes .at ≤ length bytes
+unfolding profileWalked
+walked-few bytes =
+    let w = walk-keeps profileTests profileNext (Passed bytes) profile-long (passed-more bytes) 0 noProfile bytes (record { most = omega arith }) in
+    let m = w .held .most in
+    omega arith
+
+module _ (profile question : List ℕ) (soundProfile : profileRefusal profile .number ≡ 0)
+    (soundQuestion : questionRefusal (labelsIn profile) question .number ≡ 0) where
+  records-few : length (labelsIn profile) + length (keysIn profile) ≤ 16384
+  unfolding labelsIn keysIn
+  records-few =
+      let a = profile-accepts profile soundProfile in
+      let c = a .good .counted in
+      let s = a .size in
+      let w = walked-few profile in
+      omega arith
+
+  pub remembered : (found : Found) → Chain (keysIn profile) (questionIn question) (found .u) (stepsBelow (found .steps) (found .count))
+      → found .count ≤ 8
+      → Remembers (labelsIn profile) profile (length (labelsIn profile)) (keysIn profile) (recordBody question) (found .u) (found .steps) (found .count)
+  unfolding citedKey questionIn
+  remembered found chain few =
+      let q = question-accepts (labelsIn profile) question soundQuestion in
+      record {
+        good = accepted-keys profile soundProfile;
+        asked = q .good;
+        reads = ends-key question (q .isWhole) (q .kind);
+        small = let r = records-few in omega arith;
+        are = λ n h. key-place profile n h .is;
+        long = λ n h. key-place profile n h .isWhole .long;
+        within = λ n h. key-place profile n h .isWhole .within;
+        isKey = λ n h. let k = key-place profile n h in ends-key _ (k .isWhole) (k .kind);
+        chain = chain;
+        few = few;
+      }

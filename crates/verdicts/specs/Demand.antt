@@ -1,0 +1,176 @@
+-- Demand 3, said of the answer that deciding gives to inputs that are not refused: implied exactly when every finite tree, of any size, labels
+-- and values, that keeps the profile keeps the key; else not implied. Each with its evidence, never both.
+use Prim.Native.Nat.{ℕ, zero, suc, _*_, _≤_}
+use mathlib.Core.Path.{_≡_, refl, sym, _∙_, ap, subst}
+use mathlib.Core.Logic.{_⊎_, inl, inr, ⊎-elim}
+use mathlib.Core.Bool.{Bool, true, false}
+use mathlib.Core.List.{List, [], _∷_}
+use mathlib.Core.Option.{some, Option·none-ne-some}
+use native.Mathlib.Omega.{arith}
+use lib.Dec.{T}
+use lib.ListN.{length}
+use Rattle.meaning.specs.Keys.{Key, Implied}
+use Rattle.meaning.specs.Rules.{Line, lineKeys, EndsWith}
+use Rattle.meaning.specs.Paths.{classOf}
+use Rattle.meaning.specs.Refusals.{Refusal, firstRefusal, profileRefusal, questionRefusal, questionIn, answerRefusal, proofWalked}
+use Rattle.meaning.specs.Pattern.{writtenNodes}
+use Rattle.meaning.specs.Operations
+use Rattle.meaning.specs.Operations.{
+  Answer,
+  Verdict,
+  refused,
+  rewritten,
+  included,
+  notIncluded,
+  kept,
+  broken,
+  listed,
+  choose,
+  Unless,
+  refusedBy,
+  filled,
+  plain,
+  implied,
+  notImplied,
+  accepted,
+  labelsIn,
+  keysIn,
+  Decides,
+  ProofWritten,
+  TreeWritten,
+  TreeTooLarge,
+  ChecksProof,
+  ProofJudged,
+  unfollowed,
+  faulty,
+  otherEnd,
+  proved,
+}
+use Rattle.theory_records.specs.Questions.{lines-at-stop}
+use Rattle.theory_operations.specs.Refusing.{sound-more, sound-end, answer-large}
+use Rattle.theory_decide.specs.NotImplied.{never-too-large, tree-bytes}
+
+-- the verdicts that tell answers apart
+unfoldable isImplied : Verdict → Bool
+isImplied implied = true
+isImplied refused = false
+isImplied rewritten = false
+isImplied included = false
+isImplied notIncluded = false
+isImplied kept = false
+isImplied broken = false
+isImplied accepted = false
+isImplied notImplied = false
+isImplied listed = false
+
+unfoldable isRefused : Verdict → Bool
+isRefused refused = true
+isRefused implied = false
+isRefused rewritten = false
+isRefused included = false
+isRefused notIncluded = false
+isRefused kept = false
+isRefused broken = false
+isRefused accepted = false
+isRefused notImplied = false
+isRefused listed = false
+
+not-other : implied ≡ notImplied → ⊥
+unfolding isImplied
+not-other e = subst (λ (v : Verdict). T (isImplied v)) e tt
+
+not-refused : refused ≡ accepted → ⊥
+unfolding isRefused
+not-refused e = subst (λ (v : Verdict). T (isRefused v)) e tt
+
+-- ---- what an answer says where nothing is refused
+
+passed-says : (rs : List Refusal) (buffer : List ℕ) (Q : Answer → Type 0) (answer : Answer) → firstRefusal rs .number ≡ 0 → Unless rs buffer Q answer → Q answer
+unfolding Unless choose
+passed-says rs buffer Q answer e u = subst (λ (n : ℕ). choose n (Q answer) (answer ≡ refusedBy (firstRefusal rs) buffer)) e u
+
+accepted-says : (rs : List Refusal) (buffer : List ℕ) (Q : Answer → Type 0) → Unless rs buffer Q (plain accepted) → Q (plain accepted)
+unfolding Unless choose plain refusedBy
+accepted-says rs buffer Q u = go (firstRefusal rs .number) u
+  where
+    go : (n : ℕ) → choose n (Q (plain accepted)) (plain accepted ≡ refusedBy (firstRefusal rs) buffer) → Q (plain accepted)
+    go zero q = q
+    go (suc n) e = absurd (not-refused (sym (ap (λ (a : Answer). a .verdict) e)))
+
+-- ---- the verdict
+
+module _ (profile question buffer : List ℕ) (room : 65536 ≤ length buffer) (soundProfile : profileRefusal profile .number ≡ 0)
+    (soundQuestion : questionRefusal (labelsIn profile) question .number ≡ 0) (answer : Answer) (decides : Decides profile question buffer answer) where
+  abbrev Asked : Type 0
+  Asked = Implied (labelsIn profile) (keysIn profile) (questionIn question)
+
+  -- "Each with its evidence": one of the two, since refusal 11 is never given
+  pub evidence : ProofWritten profile question buffer answer ⊎ TreeWritten profile question buffer answer
+  unfolding Decides
+  evidence = go (passed-says _ buffer _ answer passes decides)
+    where
+      passes : firstRefusal (answerRefusal buffer ∷ profileRefusal profile ∷ questionRefusal (labelsIn profile) question ∷ []) .number ≡ 0
+      passes = sound-more _ _ (answer-large buffer room) (sound-more _ _ soundProfile (sound-more _ _ soundQuestion sound-end))
+
+      go : ProofWritten profile question buffer answer
+          ⊎ (TreeWritten profile question buffer answer ⊎ TreeTooLarge profile question buffer answer)
+          → ProofWritten profile question buffer answer ⊎ TreeWritten profile question buffer answer
+      go (inl p) = inl p
+      go (inr (inl t)) = inr t
+      go (inr (inr x)) = absurd (never-too-large profile question buffer soundQuestion soundProfile answer x)
+
+  proof-says : ProofWritten profile question buffer answer → answer .verdict ≡ implied
+  unfolding filled
+  proof-says p = ap (λ (a : Answer). a .verdict) (p .answered)
+
+  tree-says : TreeWritten profile question buffer answer → answer .verdict ≡ notImplied
+  unfolding filled
+  tree-says t = ap (λ (a : Answer). a .verdict) (t .answered)
+
+  -- "implied" exactly when every tree that keeps the profile keeps the key
+  pub implied-true : answer .verdict ≡ implied → Asked
+  implied-true e = ⊎-elim (λ p. p .holds) (λ t. absurd (not-other (sym e ∙ tree-says t))) evidence
+
+  pub implied-said : Asked → answer .verdict ≡ implied
+  implied-said h = ⊎-elim proof-says (λ t. absurd (t .fails h)) evidence
+
+  -- "else not implied"
+  pub not-implied-true : answer .verdict ≡ notImplied → Asked → ⊥
+  not-implied-true e h = not-other (sym (implied-said h) ∙ e)
+
+  pub not-implied-said : (Asked → ⊥) → answer .verdict ≡ notImplied
+  not-implied-said f = ⊎-elim (λ p. absurd (f (p .holds))) tree-says evidence
+
+-- "never both": no question has a proof that the check accepts and a tree that it accepts
+pub never-both : (profile question buffer : List ℕ) (a b : Answer) → ProofWritten profile question buffer a → TreeWritten profile question buffer b → ⊥
+never-both profile question buffer a b p t = t .fails (p .holds)
+
+-- ---- the evidence
+
+some-line : (lines : List Line) (question : Key) → EndsWith lines question → 1 ≤ length lines
+unfolding EndsWith lineKeys
+some-line [] question e = absurd (Option·none-ne-some _ e)
+some-line (l ∷ lines) question e = omega arith
+
+-- an accepted proof is 1 to 256 lines, to its end
+pub record ProofLines (profile proof : List ℕ) : Type 0 where
+  pub whole : proofWalked (labelsIn profile) proof .number ≡ 0
+  pub some : 1 ≤ length (proofWalked (labelsIn profile) proof .state)
+  pub most : length (proofWalked (labelsIn profile) proof .state) ≤ 256
+
+pub accepted-lines : (profile question proof : List ℕ) → ChecksProof profile question proof (plain accepted) → ProofLines profile proof
+unfolding ChecksProof plain refusedBy
+accepted-lines profile question proof c = go (accepted-says _ [] _ c)
+  where
+    go : ProofJudged (labelsIn profile) (keysIn profile) (questionIn question) (proofWalked (labelsIn profile) proof) (plain accepted) → ProofLines profile proof
+    go (unfollowed n h l f e) = absurd (not-refused (sym (ap (λ (a : Answer). a .verdict) e)))
+    go (faulty l r e) = absurd (not-refused (sym (ap (λ (a : Answer). a .verdict) e)))
+    go (otherEnd l z f e) = absurd (not-refused (sym (ap (λ (a : Answer). a .verdict) e)))
+    go (proved l z e a) = record { whole = z; some = some-line _ _ e; most = lines-at-stop (labelsIn profile) proof .few }
+
+-- "not implied with bytes used (9 times the nodes)"
+pub tree-used : (profile question buffer : List ℕ) → profileRefusal profile .number ≡ 0 → questionRefusal (labelsIn profile) question .number ≡ 0
+    → (answer : Answer) (t : TreeWritten profile question buffer answer)
+    → answer .used ≡ 9 * length (writtenNodes (classOf (labelsIn profile)) (questionIn question) (t .u))
+unfolding filled
+tree-used profile question buffer p q answer t = ap (λ (a : Answer). a .used) (t .answered) ∙ tree-bytes profile question p q (t .u) (t .isU)

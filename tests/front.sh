@@ -1,0 +1,152 @@
+#!/bin/sh
+# The front as a stranger would use it: the bundled examples, other folders, bad usage, unreadable files, refused inputs, an output that
+# cannot be written. Each line says what is tried; a difference fails the run.
+set -eu
+root=$(CDPATH= cd -- "$(dirname -- "$0")/.." && pwd)
+work=$(mktemp -d)
+trap 'rm -rf "$work"' EXIT
+front=$root/culvertecho
+bench=$root/bench
+tried=0
+
+fail() {
+    echo "front: $*" >&2
+    exit 1
+}
+
+# expect STATUS OUTPUT COMMAND..: the front's exit status and its whole standard output
+expect() {
+    status=$1
+    output=$2
+    shift 2
+    tried=$((tried + 1))
+    found=0
+    "$front" "$@" >"$work/found" 2>"$work/errors" </dev/null || found=$?
+    [ "$found" -eq "$status" ] || fail "$*: status $found, not $status: $(cat "$work/found" "$work/errors")"
+    printf '%s' "$output" >"$work/wanted"
+    cmp -s "$work/wanted" "$work/found" || fail "$*: printed $(cat "$work/found"), not $output"
+}
+line='
+'
+
+# the main job: every row of 01 with its verdict, all evidence accepted
+"$front" >"$work/table" || fail "the bundled examples do not agree with 01: $(cat "$work/table")"
+rows=$(grep -c ' accepted ' "$work/table") || true
+[ "$rows" -eq 12 ] || fail "$rows rows, not 12"
+grep -q '^b    not implied  108 ' "$work/table" || fail "row b is not there"
+# a wrong expectation is seen: the same examples with row a turned round
+cp -R "$root/bench" "$root/crates.txt" "$front" "$work"
+mkdir "$work/target"
+ln -s "$root/target/bin" "$work/target/bin"
+sed 's/^a	I/a	N/' "$bench/rows.txt" >"$work/bench/rows.txt"
+if "$work/culvertecho" >"$work/table"; then fail "a wrong row is not seen"; fi
+
+# from another folder, which it leaves as it was; names with spaces
+mkdir "$work/other folder"
+cd "$work/other folder"
+cp "$bench/a.profile" "a profile"
+expect 0 "implied 144$line" decide "a profile" "$bench/a.question" "$work/proof"
+expect 0 "accepted$line" checker proof "a profile" "$bench/a.question" "$work/proof"
+[ "$(ls)" = "a profile" ] || fail "the folder was changed: $(ls)"
+cd "$work"
+
+# OUT is overwritten by exactly the bytes used, and stays on a refusal
+head -c 1000 /dev/zero >"$work/out"
+expect 1 "not implied 108$line" decide "$bench/b.profile" "$bench/b.question" "$work/out"
+[ "$(wc -c <"$work/out")" -eq 108 ] || fail "OUT has other bytes than those used"
+cp "$work/out" "$work/before"
+expect 2 "refused 1 2 0$line" decide "$bench/b.profile" "$work/no_such_file" "$work/out"
+cmp -s "$work/before" "$work/out" || fail "a refusal changed OUT"
+expect 2 "refused 1 2 0$line" decide "$bench/b.profile" "$work/no_such_file" "$work/not_made"
+[ ! -e "$work/not_made" ] || fail "a refusal made OUT"
+
+# every answer's status
+expect 1 "broken$line" profile keep "$bench/b.profile" "$bench/b.question" "$work/out"
+expect 0 "kept$line" profile keep "$bench/b.profile" "$bench/a.question" "$work/out"
+expect 0 "accepted$line" checker tree "$bench/b.profile" "$bench/b.question" "$work/out"
+expect 2 "refused 12 1 0$line" checker tree "$bench/a.profile" "$bench/b.question" "$work/out"
+expect 2 "refused 13 3 0$line" checker tree "$bench/b.profile" "$bench/a.question" "$work/out"
+expect 2 "refused 10 3 8$line" checker proof "$bench/a.profile" "$bench/b.question" "$work/proof"
+expect 2 "refused 10 3 0$line" checker proof "$bench/a.profile" "$bench/a.question" "$work/no_such_file"
+expect 2 "refused 8 3 0$line" checker tree "$bench/a.profile" "$bench/a.question" "$work/no_such_file"
+expect 0 "rewritten 69$line" profile rewrite "$bench/b.profile" "$work/rewritten"
+cmp -s "$bench/b.profile" "$work/rewritten" || fail "rewriting changed the profile"
+printf '\003\004' >"$work/narrow"
+printf '\000\004' >"$work/wide"
+expect 0 "included$line" profile include "$bench/b.profile" "$work/narrow" "$work/wide"
+expect 1 "not included$line" profile include "$bench/b.profile" "$work/wide" "$work/narrow"
+expect 0 "" profile body "$bench/b.profile" 7
+expect 0 "" profile body "$bench/b.profile" 99999999999999999999999999
+expect 0 "" profile body "$bench/b.question" 0
+"$front" profile body "$bench/b.profile" 6 >"$work/body"
+printf '\001\003\001\004\001\001\007' >"$work/wanted"
+cmp -s "$work/wanted" "$work/body" || fail "the body of record 6 is not its bytes"
+
+# an unreadable file counts as empty: no labels, so the question's symbol 3 is unknown
+expect 2 "refused 4 2 0$line" decide "$work/no_such_file" "$bench/b.question" "$work/not_made"
+expect 4 "unwritable$line" decide "$bench/a.profile" "$bench/a.question" "$work/no/such/folder"
+expect 4 "unwritable$line" profile rewrite "$bench/a.profile" "$work/no/such/folder"
+
+# bad usage
+usage="usage: decide PROFILE QUESTION OUT$line"
+expect 3 "$usage" decide
+expect 3 "$usage" decide "$bench/a.profile" "$bench/a.question"
+expect 3 "$usage" decide "$bench/a.profile" "$bench/a.question" "$work/not_made" more
+usage="usage: checker proof PROFILE QUESTION PROOF | checker tree PROFILE QUESTION TREE$line"
+expect 3 "$usage" checker
+expect 3 "$usage" checker neither a b c
+usage="usage: profile rewrite PROFILE OUT | profile body PROFILE N | profile include PROFILE PATH PATH | profile keep PROFILE QUESTION TREE$line"
+expect 3 "$usage" profile
+expect 3 "$usage" profile body "$bench/a.profile" six
+expect 3 "$usage" profile body "$bench/a.profile" ""
+expect 3 "$usage" profile body "$bench/a.profile" -1
+expect 3 "$usage" profile keep "$bench/a.profile"
+[ ! -e "$work/not_made" ] || fail "a wrong call made OUT"
+found=0
+"$front" no_such_command >"$work/found" || found=$?
+[ "$found" -eq 3 ] || fail "an unknown command: status $found, not 3"
+grep -q '^usage: culvertecho' "$work/found" || fail "an unknown command prints no usage"
+
+# the listing: example b with its profile.key, without one, and refused inputs
+mkdir "$work/listing"
+cd "$work/listing"
+list() { "$front" list <"$1" >"$work/found" || return $?; }
+cp "$bench/b.profile" profile.key
+list "$work/before" || fail "the listing of b: status $?"
+cmp -s "$root/crates/list/stdout" "$work/found" || fail "the listing of b differs"
+# 4,096 nodes, five blocks: a root and 4,095 elements 3 under it, whose records are all the same bytes
+printf '\011\000\003\000\000\000\003\000\000' >"$work/element"
+while [ "$(wc -c <"$work/element")" -lt 36855 ]; do
+    cat "$work/element" "$work/element" >"$work/elements"
+    mv "$work/elements" "$work/element"
+done
+{
+    printf '\011\000\003\000\377\377\313\000\000'
+    head -c 36855 "$work/element"
+} >"$work/star"
+list "$work/star" || fail "the listing of 4,096 nodes: status $?"
+{
+    printf 'nodes 4096\n0 - 203 -\n'
+    seq -f '%.0f 0 3 -' 1 4095
+} >"$work/wanted"
+cmp "$work/wanted" "$work/found" || fail "the listing of 4,096 nodes differs"
+refused() {
+    tried=$((tried + 1))
+    found=0
+    list "$1" || found=$?
+    [ "$found" -eq 2 ] && [ "$(cat "$work/found")" = "refused $2" ] || fail "list $1: $found $(head -c 100 "$work/found"), not refused $2"
+}
+refused /dev/null "8 3 0"
+head -c 107 "$work/before" >"$work/cut"
+refused "$work/cut" "1 3 11"
+head -c 36865 /dev/zero >"$work/large"
+refused "$work/large" "7 3 0"
+rm profile.key
+refused "$work/before" "8 3 2"
+printf '\005\000\001\000\002' >profile.key
+refused "$work/before" "1 1 0"
+head -c 16385 /dev/zero >profile.key
+refused "$work/before" "7 1 0"
+cd "$root"
+
+echo "front: the table of 01 and $tried calls answer as the README says"
