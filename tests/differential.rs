@@ -9,7 +9,8 @@
 //! differential accepted SEED COUNT FOUND FOLDER reads answers to them: each has to be accepted
 //! differential wrong SEED COUNT                 reads answers: each wrong line of the reference is caught
 //! differential self SEED COUNT                  what must hold within the reference itself
-//! differential sample cases|answers             a case of each outcome: `replay`'s own files stdin and stdout
+//! differential sample cases                     a case of each outcome: `replay`'s own file stdin
+//! differential sample answers                   reads answers to them and writes them, if all are right: its stdout
 //!
 //! COUNT random cases follow the fixed ones. reference/stream.rs has the format.
 #[path = "differential/consistency.rs"]
@@ -72,6 +73,19 @@ fn sample() -> Vec<Case> {
     seen.into_values().collect()
 }
 
+/// Which accepted proof is written is open, so the sample's answers are `replay`'s own, held to the reference.
+fn write_right_answers() -> Result<bool> {
+    let mut found = stdin().lock();
+    let mut out = Vec::new();
+    for case in sample() {
+        match read_answer(&mut found).filter(|answer| is_right(&case, answer)) {
+            Some(answer) => write_answer(&mut out, &answer)?,
+            None => return Ok(false),
+        }
+    }
+    stdout().write_all(&out).map(|_| true)
+}
+
 fn write_cases(cases: impl Iterator<Item = Case>) -> Result<bool> {
     let mut out = BufWriter::new(stdout().lock());
     for case in cases {
@@ -99,7 +113,7 @@ fn run(words: &[&str]) -> Result<bool> {
     let (seed, count) = (number(1).unwrap_or(0), number(2).unwrap_or(0) as usize);
     match words {
         ["sample", "cases"] => write_cases(sample().into_iter()),
-        ["sample", "answers"] => write_answers(sample().into_iter()),
+        ["sample", "answers"] => write_right_answers(),
         [_, ..] if number(1).is_none() || number(2).is_none() => usage(),
         ["cases", _, _] => write_cases(cases(seed, count)),
         ["answers", _, _] => write_answers(cases(seed, count)),

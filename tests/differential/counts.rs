@@ -5,7 +5,7 @@ use std::collections::BTreeMap;
 
 /// The operations that the program `replay` has: each of their cases is compared. Those of another
 /// operation may all be answered `not here`; they are counted apart and compared with nothing.
-pub const PRESENT: [u8; 7] = [REWRITE, BODY, INCLUDE, KEEP, CHECK_PROOF, CHECK_TREE, LIST];
+pub const PRESENT: [u8; 8] = [REWRITE, BODY, INCLUDE, KEEP, CHECK_PROOF, CHECK_TREE, DECIDE, LIST];
 pub const NOT_HERE: &str = "not here";
 
 /// A run of so many cases has to meet the minimums; a shorter one only prints what it saw.
