@@ -35,7 +35,7 @@ rows=$(grep -c ' accepted ' "$work/table") || true
 [ "$rows" -eq 12 ] || fail "$rows rows, not 12"
 grep -q '^b    not implied  108 ' "$work/table" || fail "row b is not there"
 # a wrong expectation is seen: the same examples with row a turned round
-cp -R "$root/bench" "$root/crates.txt" "$front" "$work"
+cp -R "$root/bench" "$front" "$work"
 mkdir "$work/target"
 ln -s "$root/target/bin" "$work/target/bin"
 sed 's/^a	I/a	N/' "$bench/rows.txt" >"$work/bench/rows.txt"

@@ -1,0 +1,138 @@
+//! What each case wants, and whether an answer meets it. An expectation is written by hand from 01; the reference checks only
+//! the evidence of a decision (which accepted proof is written is open, so a proof cannot be written down beforehand).
+use crate::reference::operations::{check_counterexample, check_proof};
+use crate::reference::stream::*;
+
+#[derive(Clone)]
+pub enum Wanted {
+    /// This line, and no bytes.
+    Line(String),
+    /// This line, and these bytes.
+    Bytes(String, Vec<u8>),
+    /// `implied` and a proof that the proof check accepts.
+    Implied,
+    /// `not implied`, so many bytes, and a tree that the counterexample check accepts.
+    NotImplied(usize),
+}
+
+pub struct Fixed {
+    pub issue: u8,
+    pub name: String,
+    pub case: Case,
+    pub wanted: Wanted,
+}
+
+/// The cases of one issue.
+pub struct Cases {
+    issue: u8,
+    pub all: Vec<Fixed>,
+}
+
+impl Cases {
+    pub fn of(issue: u8) -> Cases {
+        Cases { issue, all: Vec::new() }
+    }
+
+    fn add(&mut self, name: &str, case: Case, wanted: Wanted) {
+        self.all.push(Fixed { issue: self.issue, name: name.to_string(), case, wanted });
+    }
+
+    /// A case and the line that it wants: `refused 4 1 3`, `kept`, `implied`, `not implied 108`, ..
+    pub fn put(&mut self, name: &str, case: Case, wanted: &str) {
+        let bytes = wanted.strip_prefix("not implied ").map(|count| count.parse::<usize>().unwrap());
+        let wanted = match (wanted, bytes) {
+            ("implied", _) => Wanted::Implied,
+            (_, Some(bytes)) => Wanted::NotImplied(bytes),
+            _ => Wanted::Line(wanted.to_string()),
+        };
+        self.add(name, case, wanted);
+    }
+
+    /// A case that wants these bytes after the word and their number.
+    pub fn put_bytes(&mut self, name: &str, case: Case, word: &str, bytes: &[u8]) {
+        self.add(name, case, Wanted::Bytes(format!("{} {}", word, bytes.len()), bytes.to_vec()));
+    }
+}
+
+fn evidence(case: &Case, answer: &Answer) -> Result<(), String> {
+    let [profile, question, _] = &case.inputs;
+    let checked = if answer.line.starts_with("implied ") {
+        check_proof(profile, question, &answer.bytes)
+    } else {
+        check_counterexample(profile, question, &answer.bytes)
+    };
+    checked.map_err(|refusal| format!("the evidence is refused: {:?}", refusal))
+}
+
+/// Whether an answer meets what is wanted, and if not, what is wrong with it.
+pub fn meets(case: &Case, wanted: &Wanted, found: &Answer) -> Result<(), String> {
+    let differs = |wanted: &str| Err(format!("wanted `{}`, found `{}`", wanted, found.line));
+    match wanted {
+        Wanted::Line(line) if found.line != *line => return differs(line),
+        Wanted::Bytes(line, _) if found.line != *line => return differs(line),
+        Wanted::Line(_) if !found.bytes.is_empty() => return Err(format!("{} bytes after `{}`", found.bytes.len(), found.line)),
+        Wanted::Bytes(_, bytes) if found.bytes != *bytes => return Err(first_difference(bytes, &found.bytes)),
+        Wanted::Implied if found.line != format!("implied {}", found.bytes.len()) => return differs("implied .."),
+        Wanted::NotImplied(bytes) if found.line != format!("not implied {}", bytes) => {
+            return differs(&format!("not implied {}", bytes));
+        }
+        _ => {}
+    }
+    let is_decided = found.line.starts_with("implied ") || found.line.starts_with("not implied ");
+    if case.operation == DECIDE && is_decided {
+        return evidence(case, found);
+    }
+    Ok(())
+}
+
+fn first_difference(wanted: &[u8], found: &[u8]) -> String {
+    let at = (0..wanted.len().min(found.len())).find(|&at| wanted[at] != found[at]);
+    match at {
+        Some(at) => format!("byte {}: wanted {}, found {}", at, wanted[at], found[at]),
+        None => format!("wanted {} bytes, found {}", wanted.len(), found.len()),
+    }
+}
+
+/// The expectation changed as little as can be: a comparison that cannot fail shows nothing.
+pub fn changed(wanted: &Wanted) -> Wanted {
+    match wanted {
+        Wanted::Line(line) => Wanted::Line(other_line(line)),
+        Wanted::Bytes(line, bytes) => {
+            let mut other = bytes.clone();
+            match other.last_mut() {
+                Some(last) => *last ^= 1,
+                None => other.push(0),
+            }
+            Wanted::Bytes(line.clone(), other)
+        }
+        Wanted::Implied => Wanted::NotImplied(54),
+        Wanted::NotImplied(bytes) => Wanted::NotImplied(bytes + 9),
+    }
+}
+
+fn other_line(line: &str) -> String {
+    let other = match line {
+        "kept" => "broken",
+        "broken" => "kept",
+        "included" => "not included",
+        "not included" => "included",
+        "accepted" => "refused 9 3 0",
+        _ => {
+            let (front, record) = line.rsplit_once(' ').unwrap();
+            return format!("{} {}", front, record.parse::<u32>().unwrap() + 1);
+        }
+    };
+    other.to_string()
+}
+
+/// Whether the case notices both a changed expectation and, where evidence is wanted, a proof with another last byte.
+pub fn can_fail(fixed: &Fixed, found: &Answer) -> bool {
+    let mut other = found.clone();
+    if let (Wanted::Implied, Some(last)) = (&fixed.wanted, other.bytes.last_mut()) {
+        *last ^= 1;
+        if meets(&fixed.case, &fixed.wanted, &other).is_ok() {
+            return false;
+        }
+    }
+    meets(&fixed.case, &changed(&fixed.wanted), found).is_err()
+}

@@ -1,0 +1,165 @@
+//! Inputs written down: keys in 01's notation, trees as the listing prints them, proof lines, and bytes.
+//!
+//! Nothing is put in order or mended here: key paths stand as typed, and a symbol may be any number, so that an input can have
+//! the very fault that a case is about.
+use crate::reference::encode::record;
+use crate::reference::stream::*;
+
+pub const ANSWER: u32 = 65_536;
+
+/// Label numbers, classes (1 element, 2 attribute) and names.
+pub type Labels = &'static [(u8, u8, &'static str)];
+
+/// 01, "Bench examples".
+pub const BENCH: Labels = &[(2, 1, "run"), (3, 1, "port"), (4, 1, "frame"), (5, 1, "stamp"), (6, 2, "id"), (7, 2, "seq")];
+
+/// Bytes in hex.
+pub fn hex(text: &str) -> Vec<u8> {
+    text.split_whitespace().map(|byte| u8::from_str_radix(byte, 16).unwrap()).collect()
+}
+
+pub fn joined(parts: &[&[u8]]) -> Vec<u8> {
+    parts.concat()
+}
+
+/// A record whose length field is right.
+pub fn of_kind(kind: u16, body: &[u8]) -> Vec<u8> {
+    record(kind, body)
+}
+
+pub fn label(number: u8, class: u8, name: &str) -> Vec<u8> {
+    of_kind(1, &[&[number, class], name.as_bytes()].concat())
+}
+
+pub fn labels(of: Labels) -> Vec<u8> {
+    of.iter().flat_map(|&(number, class, name)| label(number, class, name)).collect()
+}
+
+/// `e` is the empty path, `_*` the any-path, `#` text, `@` stands before an attribute; a number is a symbol itself.
+pub fn path(of: Labels, text: &str) -> Vec<u8> {
+    let symbol = |word: &str| match (word, word.parse::<u8>()) {
+        ("_*", _) => 0,
+        ("#", _) => 1,
+        (_, Ok(number)) => number,
+        _ => of.iter().find(|label| label.2 == word.trim_start_matches('@')).unwrap_or_else(|| panic!("no label {}", word)).0,
+    };
+    if text == "e" {
+        return Vec::new();
+    }
+    text.split('.').map(symbol).collect()
+}
+
+fn with_length(path: Vec<u8>) -> Vec<u8> {
+    [vec![path.len() as u8], path].concat()
+}
+
+/// The body of a key `(C,(T,{P,..}))`; `{}` has no key path.
+pub fn key_body(of: Labels, text: &str) -> Vec<u8> {
+    let inner = text.strip_prefix('(').unwrap().strip_suffix("}))").unwrap();
+    let (context, rest) = inner.split_once(",(").unwrap();
+    let (target, set) = rest.split_once(",{").unwrap();
+    let paths: Vec<&str> = if set.is_empty() { Vec::new() } else { set.split(',').collect() };
+    let mut body = [with_length(path(of, context)), with_length(path(of, target)), vec![paths.len() as u8]].concat();
+    paths.iter().for_each(|each| body.extend(with_length(path(of, each))));
+    body
+}
+
+pub fn key_of(of: Labels, text: &str) -> Vec<u8> {
+    of_kind(2, &key_body(of, text))
+}
+
+/// A key over the bench labels.
+pub fn key(text: &str) -> Vec<u8> {
+    key_of(BENCH, text)
+}
+
+pub fn profile_of(of: Labels, keys: &[&str]) -> Vec<u8> {
+    let records: Vec<Vec<u8>> = keys.iter().map(|text| key_of(of, text)).collect();
+    [labels(of), records.concat()].concat()
+}
+
+/// The bench labels (records 0 to 5), then keys.
+pub fn profile(keys: &[&str]) -> Vec<u8> {
+    profile_of(BENCH, keys)
+}
+
+fn two(text: &str, none: u16) -> [u8; 2] {
+    let number = if text == "-" { none } else { text.parse::<u16>().unwrap_or_else(|_| panic!("{}", text)) };
+    number.to_le_bytes()
+}
+
+/// A tree as the listing prints its nodes, number, parent, label, value, with `/` between the lines.
+pub fn tree(text: &str) -> Vec<u8> {
+    let mut bytes = Vec::new();
+    for (number, line) in text.split('/').enumerate() {
+        let words: Vec<&str> = line.split_whitespace().collect();
+        assert_eq!(words[0], number.to_string(), "{}", text);
+        let label = words[2].parse::<u8>().unwrap();
+        bytes.extend(of_kind(3, &[&two(words[1], 65_535)[..], &[label], &two(words[3], 0)].concat()));
+    }
+    bytes
+}
+
+/// Only a root.
+pub const ROOT: &str = "0 - 203 -";
+
+/// A proof line `RULE FIRST SECOND KEY`; `-` is a premise field that is not used (65535).
+pub fn line_of(of: Labels, text: &str) -> Vec<u8> {
+    let words: Vec<&str> = text.split_whitespace().collect();
+    let rule = words[0].parse::<u8>().unwrap();
+    of_kind(4, &[&[rule], &two(words[1], 65_535)[..], &two(words[2], 65_535), &key_body(of, words[3])].concat())
+}
+
+pub fn proof_of(of: Labels, lines: &[&str]) -> Vec<u8> {
+    lines.iter().flat_map(|text| line_of(of, text)).collect()
+}
+
+pub fn proof(lines: &[&str]) -> Vec<u8> {
+    proof_of(BENCH, lines)
+}
+
+/// The key of a proof line as text.
+pub fn key_text(line: &str) -> &str {
+    line.split_whitespace().last().unwrap()
+}
+
+fn case(operation: u8, number: u32, inputs: [&[u8]; 3]) -> Case {
+    Case { operation, number, room: ANSWER, inputs: [inputs[0].to_vec(), inputs[1].to_vec(), inputs[2].to_vec()] }
+}
+
+pub fn rewrite(profile: &[u8]) -> Case {
+    case(REWRITE, 0, [profile, &[], &[]])
+}
+
+pub fn body(profile: &[u8], n: u32) -> Case {
+    case(BODY, n, [profile, &[], &[]])
+}
+
+pub fn include(profile: &[u8], p: &[u8], q: &[u8]) -> Case {
+    case(INCLUDE, 0, [profile, p, q])
+}
+
+pub fn keep(profile: &[u8], question: &[u8], tree: &[u8]) -> Case {
+    case(KEEP, 0, [profile, question, tree])
+}
+
+pub fn check_proof(profile: &[u8], question: &[u8], proof: &[u8]) -> Case {
+    case(CHECK_PROOF, 0, [profile, question, proof])
+}
+
+pub fn check_tree(profile: &[u8], question: &[u8], tree: &[u8]) -> Case {
+    case(CHECK_TREE, 0, [profile, question, tree])
+}
+
+pub fn decide(profile: &[u8], question: &[u8]) -> Case {
+    case(DECIDE, 0, [profile, question, &[]])
+}
+
+pub fn list(profile: &[u8], tree: &[u8], block: u32) -> Case {
+    case(LIST, block, [profile, &[], tree])
+}
+
+/// The same case with an answer buffer of another size.
+pub fn in_room(room: u32, case: Case) -> Case {
+    Case { room, ..case }
+}
