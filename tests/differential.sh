@@ -1,14 +1,24 @@
 #!/bin/sh
 # differential.sh [SEED [COUNT]]: holds the programs that `rt ci` built to the reference in plain Rust, which is written from document 01
-# alone. Cases and expected answers are made again in each run; a difference fails it. Wrong lines of the reference must be caught: a
-# comparison that cannot fail shows nothing. All that is built or written lies in target/tests.
+# alone. Cases and expected answers are made again in each run; a difference fails it, is printed, and lies in target/tests/difference as
+# files that can be run again. From 200,000 cases on, each operation, verdict and refusal has its minimum (tests/differential/counts.rs).
+# Wrong lines of the reference must be caught: a comparison that cannot fail shows nothing. A longer run: another SEED, a larger COUNT;
+# nothing but the answers is kept, so COUNT may be in the millions. All that is built or written lies in target/tests.
 set -eu
 root=$(CDPATH= cd -- "$(dirname -- "$0")/.." && pwd)
 cd "$root"
 seed=${1:-1}
-count=${2:-20000}
+count=${2:-240000}
 work=target/tests
+# The reference's own consistency, and the wrong lines, need no more random cases than these.
+few=20000
 mkdir -p "$work"
+
+start=$(date +%s)
+said() {
+    sed "s/^/$1: /"
+    echo "$1: $(($(date +%s) - start)) seconds since the start"
+}
 
 fail() {
     echo "differential: $*" >&2
@@ -23,7 +33,7 @@ if ! command -v rustc >/dev/null 2>&1; then
         fail "no rustc, and apt-get could not install it: $work/apt.log"
 fi
 rustc=$(command -v rustc) || fail "no rustc"
-echo "differential: $("$rustc" --version), seed $seed"
+echo "differential: $("$rustc" --version), seed $seed, $count random cases"
 
 build() {
     name=$1
@@ -37,7 +47,7 @@ build differential -O
 
 # 1. The reference itself: fixed checks, then random ones.
 "$work/reference_checks" || fail "the reference fails its own checks"
-"$work/differential" self "$seed" "$count" || fail "the reference contradicts itself"
+"$work/differential" self "$seed" "$few" || fail "the reference contradicts itself"
 
 # 2. Paths: the program path_cases.
 "$work/path_vectors" counts "$seed"
@@ -57,36 +67,27 @@ for line in 1 2; do
 done
 echo "path_cases: 2 wrong lines caught"
 
-# 3. The public operations: the program replay. An operation that it does not have yet is answered `not here`, counted apart and compared
-# with nothing; differential.rs lists those that it has.
-"$work/differential" cases "$seed" "$count" >"$work/cases"
-tests/run_program.sh replay <"$work/cases" >"$work/found" || fail "replay did not run"
-if ! "$work/differential" compare "$seed" "$count" <"$work/found" >"$work/compared"; then
+# 3. The public operations: the program replay, which answers while the cases are made and compared. An operation that it does not have yet is
+# answered `not here`, counted apart and compared with nothing; differential/counts.rs lists those that it has.
+if ! "$work/differential" cases "$seed" "$count" | tests/run_program.sh replay | tee "$work/found" |
+    "$work/differential" compare "$seed" "$count" "$work/difference" >"$work/compared"; then
     cat "$work/compared"
-    fail "replay differs from the reference"
+    fail "replay differs from the reference, or an outcome is too rare"
 fi
-sed 's/^/replay: /' "$work/compared"
+said replay <"$work/compared"
 
-# A wrong line that changes answers of an operation that replay has (`here`) must be caught by replay's own answers. Any other (`later`) is
-# tried on the reference's answers, which shows only that the cases reach it.
-"$work/differential" answers "$seed" "$count" >"$work/own"
-"$work/differential" lines >"$work/lines"
-here=0
-later=0
-while read -r line state text; do
-    stream=found
-    [ "$state" = here ] || stream=own
-    if "$work/differential" compare "$seed" "$count" "$line" <"$work/$stream" >"$work/wrong"; then
-        fail "wrong line $line ($text) is not caught"
-    fi
-    if [ "$state" = here ]; then
-        here=$((here + 1))
-        echo "wrong line $line caught in replay's answers ($(grep '^differ: ' "$work/wrong")): $text"
-    else
-        later=$((later + 1))
-        echo "wrong line $line only tried on the reference's own answers: $text"
-    fi
-done <"$work/lines"
-echo "differential: 2 wrong lines caught in path_cases's answers, $here in replay's; $later concern operations that replay does not have yet"
-echo "differential: path_cases agrees with the reference; replay compared: $(sed -n 's/^agree: //p' "$work/compared")"
-echo "differential: not compared, since replay does not have them yet: $(sed -n 's/^not here: //p' "$work/compared")"
+# 4. The evidence that replay wrote: its own checkers and the reference's have to accept each proof and each tree.
+if ! "$work/differential" evidence "$seed" "$count" "$work/found" | tests/run_program.sh replay |
+    "$work/differential" accepted "$seed" "$count" "$work/found" "$work/difference" >"$work/accepted"; then
+    cat "$work/accepted"
+    fail "some evidence is not accepted, or an answer is refuted"
+fi
+said evidence <"$work/accepted"
+
+# 5. Each wrong line of the reference has to be caught in replay's answers.
+if ! "$work/differential" wrong "$seed" "$few" <"$work/found" >"$work/wrong"; then
+    cat "$work/wrong"
+    fail "a wrong line is not caught, or too few are"
+fi
+said "wrong lines" <"$work/wrong"
+echo "differential: seed $seed: $(sed -n 's/ cases: /& /p' "$work/compared" | tr -s ' '), $(tail -n 1 "$work/wrong")"

@@ -166,16 +166,30 @@ fn profile_limits(all: &mut Vec<Case>) {
     }
     profiles.push(large);
     for profile in &profiles {
-        all.push(case(REWRITE, profile, &[], &[]));
-        all.push(Case { number: 2, ..case(BODY, profile, &[], &[]) });
+        every_operation(all, profile);
         all.push(Case { number: 1_000, ..case(BODY, profile, &[], &[]) });
-        all.push(case(DECIDE, profile, &key_record(&key_of(1, 1, &[0])), &[]));
         all.push(Case { room: ROOM - 1, ..case(REWRITE, profile, &[], &[]) });
     }
     for tail in [&[][..], &[9], &[4, 0, 2, 0], &[4, 0, 9, 0], &[255, 255, 2, 0]] {
         all.push(case(DECIDE, &base, &[key_record(&key_of(1, 1, &[0])), tail.to_vec()].concat(), &[]));
         all.push(case(DECIDE, &base, tail, &[]));
     }
+}
+
+/// Each operation on one profile, with other inputs that are accepted where 2 and 4 are elements.
+fn every_operation(all: &mut Vec<Case>, profile: &[u8]) {
+    let asked = key_of(1, 0, &[0]);
+    let question = key_record(&asked);
+    let root = write_tree(&[Node { parent: NONE, label: ROOT, value: 0 }]);
+    let proof = write_proof(&[Line { rule: 1, first: NONE, second: NONE, key: asked }]);
+    all.push(case(REWRITE, profile, &[], &[]));
+    all.push(Case { number: 2, ..case(BODY, profile, &[], &[]) });
+    all.push(case(INCLUDE, profile, &[2], &[ANY_PATH, 2]));
+    all.push(case(KEEP, profile, &question, &root));
+    all.push(case(CHECK_PROOF, profile, &question, &proof));
+    all.push(case(CHECK_TREE, profile, &question, &root));
+    all.push(case(DECIDE, profile, &key_record(&key_of(1, 1, &[0])), &[]));
+    all.push(case(LIST, profile, &[], &root));
 }
 
 fn path_limits(all: &mut Vec<Case>) {
@@ -198,20 +212,18 @@ fn path_limits(all: &mut Vec<Case>) {
     }
 }
 
-/// A chain, a star of attributes, a comb: each of the given number of nodes.
+/// A chain, a star of attributes, a comb: each of the given number of nodes. The comb's attributes are
+/// equal by fours: what a tree test costs grows with the pairs of equal nodes.
 fn large_trees(size: usize) -> Vec<Vec<Node>> {
     let root = Node { parent: NONE, label: ROOT, value: 0 };
     let with_root = |nodes: Vec<Node>| [vec![root], nodes].concat();
     let chain = (1..size).map(|number| Node { parent: number as u16 - 1, label: 2, value: 0 }).collect();
     let star = (1..size).map(|number| Node { parent: 0, label: 3, value: number as u16 }).collect();
-    let comb = (1..size)
-        .map(|number| {
-            let parent = if number % 2 == 1 { number.saturating_sub(2) } else { number - 1 } as u16;
-            let label = if number % 2 == 1 { 2 } else { 3 };
-            Node { parent, label, value: if label == 3 { (number % 7) as u16 } else { 0 } }
-        })
-        .collect();
-    vec![with_root(chain), with_root(star), with_root(comb)]
+    let tooth = |number: usize| match number % 2 {
+        1 => Node { parent: number.saturating_sub(2) as u16, label: 2, value: 0 },
+        _ => Node { parent: number as u16 - 1, label: 3, value: (number % (1 + size / 4)) as u16 },
+    };
+    vec![with_root(chain), with_root(star), with_root((1..size).map(tooth).collect())]
 }
 
 fn tree_limits(all: &mut Vec<Case>) {
@@ -269,14 +281,14 @@ type Maker = fn(&mut Random, &Asked) -> Case;
 /// How many of 100 random cases each maker makes: as many as give each verdict its minimum
 /// (differential/counts.rs), and more where cases that look right go wrong.
 const SHARES: [(usize, Maker); 8] = [
-    (7, rewrite_case),
-    (6, body_case),
-    (15, include_case),
-    (16, tree_case),
-    (7, list_case),
-    (11, derivation_case),
-    (22, evidence_case),
-    (16, decide_case),
+    (6, rewrite_case),
+    (8, body_case),
+    (13, include_case),
+    (12, tree_case),
+    (6, list_case),
+    (9, derivation_case),
+    (31, evidence_case),
+    (15, decide_case),
 ];
 
 fn random_case(random: &mut Random, asked: &Asked) -> Case {
@@ -358,7 +370,7 @@ fn evidence_case(random: &mut Random, asked: &Asked) -> Case {
                     nodes[at].value = nodes[from].value;
                 }
             }
-            let operation = if random.chance(2, 3) { CHECK_TREE } else { KEEP };
+            let operation = if random.chance(4, 7) { CHECK_TREE } else { KEEP };
             case(operation, &profile, &question, &write_tree(&nodes))
         }
     }

@@ -14,6 +14,19 @@ pub struct World {
     pub last_only: Vec<u8>,
 }
 
+impl World {
+    /// The labels of a given profile. A tree has some element below its root: the filler where none is declared.
+    pub fn of(profile: &Profile) -> World {
+        let of_class = |class: u8| profile.labels.iter().filter(move |label| label.class == class).map(|label| label.number);
+        let mut elements: Vec<u8> = of_class(1).collect();
+        if elements.is_empty() {
+            elements.push(FILLER_ELEMENT);
+        }
+        let last_only = std::iter::once(TEXT).chain(of_class(2)).collect();
+        World { labels: profile.labels.clone(), classes: profile.classes.clone(), elements, last_only }
+    }
+}
+
 const NAMES: [&str; 6] = ["a", "Bee", "c-1", "d_", "element-name-of-32-bytes-ABCDEFG", "z9"];
 
 pub fn world(random: &mut Random) -> World {

@@ -5,7 +5,8 @@
 //! paths: words, joins, validity, inclusion · records: the inputs, checked from the front ·
 //! trees: value equality, keys kept · rules: proof lines · decide: pattern, verdict, evidence ·
 //! listing: blocks of lines · operations: the public operations with all refusals in 01's order ·
-//! generate: random and damaged inputs.
+//! generate, damage, derivations: random and damaged inputs · refute: trees against an implied question ·
+//! cases, stream: the cases of a run and their frames.
 #![allow(dead_code)]
 
 pub mod cases;
@@ -20,6 +21,7 @@ pub mod operations;
 pub mod paths;
 pub mod random;
 pub mod records;
+pub mod refute;
 pub mod rules;
 pub mod stream;
 pub mod trees;
@@ -43,7 +45,7 @@ pub const WRONG_LINES: [(&[u8], &str); 13] = [
     (&[DECIDE], "pattern: with the empty path, t alone is marked and not what lies below"),
     (&[DECIDE], "u is the highest node that leads to q, not the lowest"),
     (&[DECIDE], "second copy: the filler attribute of a marked node keeps its own number"),
-    (&[REWRITE, INCLUDE, KEEP, CHECK_PROOF, CHECK_TREE, DECIDE], "records: 5 is given before 4"),
+    (&[REWRITE, INCLUDE, KEEP, CHECK_PROOF, CHECK_TREE, DECIDE, LIST], "records: 5 is given before 4"),
     (&[LIST], "listing: a block has 1,023 lines"),
     (&[CHECK_TREE], "counterexample check: the first profile key alone is tried"),
     (&[BODY], "body: the first record has number 1"),

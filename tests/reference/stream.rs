@@ -8,6 +8,7 @@
 //! with `body BYTES` and `listed BYTES` besides; where it ends in BYTES, so many raw bytes follow.
 use super::operations::*;
 use super::records::Refusal;
+use std::io::{BufRead, Read, Write};
 
 pub const REWRITE: u8 = 1;
 pub const BODY: u8 = 2;
@@ -33,39 +34,44 @@ pub struct Answer {
     pub bytes: Vec<u8>,
 }
 
-pub fn write_case(out: &mut Vec<u8>, case: &Case) {
-    out.push(case.operation);
-    out.extend_from_slice(&case.number.to_le_bytes());
-    out.extend_from_slice(&case.room.to_le_bytes());
+pub fn write_case(out: &mut dyn Write, case: &Case) -> std::io::Result<()> {
+    out.write_all(&[case.operation])?;
+    out.write_all(&case.number.to_le_bytes())?;
+    out.write_all(&case.room.to_le_bytes())?;
     for input in &case.inputs {
-        out.extend_from_slice(&(input.len() as u32).to_le_bytes());
+        out.write_all(&(input.len() as u32).to_le_bytes())?;
     }
-    for input in &case.inputs {
-        out.extend_from_slice(input);
-    }
+    case.inputs.iter().try_for_each(|input| out.write_all(input))
 }
 
-pub fn write_answer(out: &mut Vec<u8>, answer: &Answer) {
-    out.extend_from_slice(answer.line.as_bytes());
-    out.push(b'\n');
-    out.extend_from_slice(&answer.bytes);
+pub fn write_answer(out: &mut dyn Write, answer: &Answer) -> std::io::Result<()> {
+    out.write_all(answer.line.as_bytes())?;
+    out.write_all(b"\n")?;
+    out.write_all(&answer.bytes)
 }
 
-/// The next answer of a stream, and what follows; none where it breaks off.
-pub fn read_answer(stream: &[u8]) -> Option<(Answer, &[u8])> {
-    let end = stream.iter().position(|&byte| byte == b'\n')?;
-    let line = String::from_utf8_lossy(&stream[..end]).to_string();
-    let rest = &stream[end + 1..];
-    let has_bytes = ["rewritten ", "body ", "listed ", "implied ", "not implied "];
-    let mut length = 0;
-    if has_bytes.iter().any(|word| line.starts_with(word)) {
-        length = line.rsplit(' ').next()?.parse::<usize>().ok()?;
-    }
-    if length > rest.len() {
+/// Words of a line that ends in a number of bytes, which follow it.
+const WITH_BYTES: [&str; 5] = ["rewritten ", "body ", "listed ", "implied ", "not implied "];
+
+/// The next answer of a stream; none where it ends or breaks off.
+pub fn read_answer(stream: &mut dyn BufRead) -> Option<Answer> {
+    let mut line = Vec::new();
+    stream.read_until(b'\n', &mut line).ok()?;
+    if line.pop() != Some(b'\n') {
         return None;
     }
-    let (bytes, rest) = rest.split_at(length);
-    Some((Answer { line, bytes: bytes.to_vec() }, rest))
+    let line = String::from_utf8_lossy(&line).to_string();
+    let mut length = 0;
+    if WITH_BYTES.iter().any(|word| line.starts_with(word)) {
+        length = line.rsplit(' ').next()?.parse::<u64>().ok()?;
+    }
+    let mut bytes = Vec::new();
+    stream.take(length).read_to_end(&mut bytes).ok()?;
+    if bytes.len() as u64 == length {
+        Some(Answer { line, bytes })
+    } else {
+        None
+    }
 }
 
 fn word(line: &str) -> Answer {

@@ -4,6 +4,8 @@ use answers::Refusal;
 use files::print;
 use files::print_count;
 use files::print_refusal;
+ghost use Prim.Native.Nat.{_≤_};
+ghost use lib.ListN.{length};
 
 // Byte i of the pattern is i % PERIOD: a prime, so that no run of a power of two bytes repeats it.
 const PERIOD: usize = 251;
@@ -21,16 +23,43 @@ pub fn fill(answer: &mut [u8]) {
     }
 }
 
-// From that byte on the buffer holds the pattern.
-fn is_unchanged(answer: &[u8], from: usize) -> bool {
+// The first period from that byte on, or what there is of it, holds the pattern.
+fn begins_unchanged(answer: &[u8], from: usize) -> bool {
     let mut i = from;
     while i < answer.len() {
+        if i - from == PERIOD {
+            return true;
+        }
         if answer[i] != pattern(i) {
             return false;
         }
         i += 1;
     }
     true
+}
+
+// Each byte that stands a period or more behind that one is the byte a period before it. Every case that lends a buffer comes here with all of it, so
+// the loop has no way out in its midst: the compiler then takes many bytes at once.
+fn repeats(answer: &[u8], from: usize) -> bool
+    requires { ⌜ from ≤ length (now answer) ⌝ }
+{
+    if answer.len() - from < PERIOD {
+        return true;
+    }
+    let mut difference = 0u8;
+    let mut i = from + PERIOD;
+    while i < answer.len() {
+        difference = difference | (answer[i] ^ answer[i - PERIOD]);
+        i += 1;
+    }
+    difference == 0
+}
+
+// From that byte on the buffer holds the pattern.
+fn is_unchanged(answer: &[u8], from: usize) -> bool
+    requires { ⌜ from ≤ length (now answer) ⌝ }
+{
+    begins_unchanged(answer, from) && repeats(answer, from)
 }
 
 fn changed(answer: &mut [u8]) {

@@ -1,0 +1,96 @@
+//! What 01 promises of the operations together, held on the reference alone.
+use crate::reference::decide::proof;
+use crate::reference::derivations::derivation;
+use crate::reference::generate::*;
+use crate::reference::operations::*;
+use crate::reference::random::Random;
+use crate::reference::records::*;
+use crate::reference::refute::search;
+use crate::reference::rules::follows;
+use crate::reference::trees::Tree;
+use std::collections::BTreeMap;
+
+const DERIVED_LINES: usize = 6;
+const SMALL_TREE: usize = 14;
+/// So many of a profile's keys are tried by definition, which is slow.
+const KEYS_BY_DEFINITION: usize = 3;
+
+pub fn is_consistent(seed: u64, count: usize) -> bool {
+    let mut random = Random::new(seed);
+    let mut counts: BTreeMap<String, usize> = BTreeMap::new();
+    let mut failed = 0;
+    for number in 0..count {
+        let asked = asked(&mut random);
+        let found = trees_and_lines(&mut random, &asked).and_then(|_| decision(&mut random, &asked));
+        if let Err(fault) = &found {
+            failed += 1;
+            println!("question {} of seed {}: {}", number, seed, fault);
+        }
+        *counts.entry(found.unwrap_or_else(|fault| fault)).or_insert(0) += 1;
+    }
+    let list: Vec<String> = counts.iter().map(|(name, count)| format!("{} {}", name, count)).collect();
+    println!("the reference itself: {} questions, {} fail: {}", count, failed, list.join(" · "));
+    failed == 0
+}
+
+/// Rewriting changes nothing, a written tree is read, the fast tree test is the definition, and no tree
+/// that keeps the profile breaks a line that follows.
+fn trees_and_lines(random: &mut Random, asked: &Asked) -> Result<(), String> {
+    let profile = write_profile(&asked.profile);
+    if rewrite(&profile, ANSWER_BYTES) != Ok(profile.clone()) {
+        return Err("rewriting changes the profile".to_string());
+    }
+    let size = 1 + random.below(SMALL_TREE);
+    let nodes = tree(random, &asked.world, size);
+    if read_tree(&write_tree(&nodes), &asked.profile.classes) != Ok(nodes.clone()) {
+        return Err("a written tree is not read".to_string());
+    }
+    let table = Tree::new(&nodes, &asked.profile.classes);
+    for key in asked.profile.keys.iter().take(KEYS_BY_DEFINITION).chain(std::iter::once(&asked.question)) {
+        if table.keeps(key) != table.keeps_by_definition(key) {
+            return Err("the fast tree test differs from the definition".to_string());
+        }
+    }
+    let keeps_profile = asked.profile.keys.iter().all(|key| table.keeps(key));
+    let lines = derivation(random, asked, DERIVED_LINES);
+    for (number, line) in lines.iter().enumerate() {
+        if !follows(line, &lines[..number], &asked.profile) {
+            break;
+        }
+        if keeps_profile && !table.keeps(&line.key) {
+            return Err(format!("a tree keeps the profile and breaks a line of rule {}", line.rule));
+        }
+    }
+    Ok(())
+}
+
+/// The evidence is accepted, both searches for steps agree, and the search for a tree against the question
+/// finds none where it is implied and one where it is not: a search that finds nothing shows nothing.
+fn decision(random: &mut Random, asked: &Asked) -> Result<String, String> {
+    let (profile, question) = (write_profile(&asked.profile), key_record(&asked.question));
+    let is_refuted = search(random, &asked.profile, &asked.question).found.is_some();
+    match decide(&profile, &question, ANSWER_BYTES) {
+        Ok(Decision::Implied(proof)) => {
+            if check_proof(&profile, &question, &proof) != Ok(()) {
+                return Err("the proof is refused".to_string());
+            }
+            if is_refuted {
+                return Err("a tree refutes an implied question".to_string());
+            }
+            Ok("implied".to_string())
+        }
+        Ok(Decision::NotImplied(tree)) => {
+            if check_counterexample(&profile, &question, &tree) != Ok(()) {
+                return Err("the counterexample is refused".to_string());
+            }
+            if !is_refuted {
+                return Err("the search for trees misses a question that is not implied".to_string());
+            }
+            if proof(&asked.question, &asked.profile).is_some() {
+                return Err("the argument's search differs from the steps".to_string());
+            }
+            Ok("not implied".to_string())
+        }
+        Err(_) => Err("a good question is refused".to_string()),
+    }
+}
