@@ -209,6 +209,9 @@ struct Case {
 
 const EVERYWHERE: &str = "(_*,(_*,{e}))";
 const EQUAL_AND_DIFFERENT: &str = "(_*,(_*,{@id,@seq}))";
+/// Three key paths that are equal wherever they lead, and a last one that never is.
+const LONG_PATHS: &str =
+    "(_*,(_*,{@id,run.run.run.run.run.run.@id,run.run.run.run.run.run.run.@id,run.run.run.run.run.run.run.@seq}))";
 
 fn keep(name: &'static str, question: &'static str, tree: fn(usize) -> Table, wanted: &'static str) -> Case {
     Case { name, profile: Vec::new(), question, tree, wanted }
@@ -216,6 +219,8 @@ fn keep(name: &'static str, question: &'static str, tree: fn(usize) -> Table, wa
 
 fn cases() -> Vec<Case> {
     let mut cases = vec![
+        // One node has no other: what the start of a program takes.
+        keep("root alone", EVERYWHERE, |_| Table::new(), "kept"),
         // Frames of two ports agree, and no port reaches both; below one port @seq differs.
         keep("segment, one key", "(port,(frame,{@seq}))", segment, "kept"),
         // No two elements of a chain have equally many nodes below them.
@@ -230,6 +235,7 @@ fn cases() -> Vec<Case> {
         keep("chain, equal and different", EQUAL_AND_DIFFERENT, dressed_chain, "kept"),
         keep("comb, equal and different", EQUAL_AND_DIFFERENT, dressed_comb, "kept"),
         keep("star, equal and different", EQUAL_AND_DIFFERENT, dressed_star, "kept"),
+        keep("chain, long key paths", LONG_PATHS, dressed_chain, "kept"),
         // The two ports have no @seq in common.
         keep("twins, equal and different", "(e,(port,{@id,@seq}))", twins, "kept"),
         // All ports are equal, and each has a frame of its own as its only context.

@@ -8,7 +8,7 @@ use native.Mathlib.Decide.{ℕ-discrete}
 use borrow.Rule.Slice.PartAt.{part-to-end}
 use lib.ListN.{length, getD, take, drop}
 use lib.Seq.{drop-cons}
-use Rattle.meaning.specs.Trees.{Table, Child, Down, here, step, Reached}
+use Rattle.meaning.specs.Trees.{Table, Down, here, step, Reached}
 use Rattle.theory_paths.specs.Words.{Word, word-append}
 use Rattle.theory_trees.specs.Below.{ParentsSmaller, down-append, down-child, down-greater}
 use Rattle.theory_trees.specs.Reach.{ReachedWay, reached-by, reached-word, reached-run, reached-self, reached-empty, reached-append-split}

@@ -5,10 +5,10 @@ use mathlib.Core.Path.{_≡_, refl, sym, _∙_, ap, subst}
 use mathlib.Core.List.{List, [], _∷_, _++_, append-assoc, cons≢nil, head-eq-of-cons-eq, tail-eq-of-cons-eq}
 use native.Mathlib.Omega.{arith}
 use native.Mathlib.Decide.{decLt}
-use lib.ListN.{length, getD, take, drop, length-take, length-drop, take-append-drop}
+use lib.ListN.{length, getD, take, drop, length-drop, take-append-drop}
 use Rattle.meaning.specs.Trees.{Table, Down, Reached}
 use Rattle.theory_paths.specs.Words.{Word, word-more}
-use Rattle.theory_trees.specs.Below.{ParentsSmaller, Way, down-append, down-split, down-greater, rigid-node, rigid-run, down-inside}
+use Rattle.theory_trees.specs.Below.{ParentsSmaller, down-append, down-split, down-greater, rigid-node, rigid-run}
 use Rattle.theory_trees.specs.Reach.{reached-by, reached-word, reached-inside}
 use Rattle.tree_reach.specs.Tabled.{Tabled}
 use Rattle.tree_reach.specs.Least.{LeastAt, Least, reached-above, above-inside}

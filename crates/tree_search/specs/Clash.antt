@@ -1,8 +1,8 @@
 -- Two nodes that agree on every key path, with a common context; and which nodes were tried with a node.
-use Prim.Native.Nat.{ℕ, zero, suc, _+_, _-_, _<_, _≤_}
-use mathlib.Core.Path.{_≡_, refl, sym, _∙_, ap, subst}
-use mathlib.Core.Bool.{Bool, true, false, false≢true, true≢false}
-use mathlib.Core.List.{List, [], _∷_}
+use Prim.Native.Nat.{ℕ, _+_, _-_, _<_, _≤_}
+use mathlib.Core.Path.{_≡_, sym, _∙_, ap, subst}
+use mathlib.Core.Bool.{Bool, true, false, false≢true}
+use mathlib.Core.List.{List}
 use native.Mathlib.Omega.{arith}
 use native.Mathlib.Decide.{ℕ-discrete}
 use lib.ListN.{length, getD, set, length-set}
@@ -10,13 +10,13 @@ use lib.Seq.{getD-set-same, getD-set-other}
 use mathlib.Core.Logic.{_≢_, _⊎_, inl, inr}
 use Rattle.meaning.specs.Lists.{Each, end, also}
 use Rattle.meaning.specs.Paths.{Class}
-use Rattle.meaning.specs.Trees.{Table, Down, Reached, Equal}
+use Rattle.meaning.specs.Trees.{Table, Reached}
 use Rattle.meaning.specs.Keys.{Key, EqualPair, Breaks}
 use Rattle.theory_trees.specs.Laws.{equal-symmetric}
 use Rattle.theory_trees.specs.Reach.{reached-inside}
 use Rattle.tree_nodes.specs.Decides.{Decides}
 use Rattle.theory_trees.specs.Below.{ParentsSmaller}
-use Rattle.tree_reach.specs.Tops.{TopAt, Tops, tops-equal, tops-at}
+use Rattle.tree_reach.specs.Tops.{Tops, tops-equal, tops-at}
 
 -- A witness against the key, but for the difference of a and b
 pub record Agreeing (κ : ℕ → Class) (t : Table) (key : Key) (q a b : ℕ) : Type 0 where

@@ -1,5 +1,5 @@
 -- The search over pairs of equal nodes that the first key path reaches: one law for each return.
-use Prim.Native.Nat.{ℕ, zero, suc, _+_, _-_, _<_, _≤_}
+use Prim.Native.Nat.{ℕ, _+_, _-_, _<_, _≤_}
 use mathlib.Core.Path.{_≡_, refl, sym, _∙_, ap, subst}
 use mathlib.Core.Logic.{_≢_, _⊎_, inl, inr}
 use mathlib.Core.Bool.{Bool, true, false, false≢true, true≢false}
@@ -7,16 +7,16 @@ use mathlib.Core.List.{List, [], _∷_}
 use native.Mathlib.Omega.{arith}
 use native.Mathlib.Decide.{ℕ-discrete, decLt}
 use lib.Dec.{T}
-use lib.ListN.{length, getD, set, take, drop}
+use lib.ListN.{length, getD, take, drop}
 use Rattle.meaning.specs.Lists.{every}
 use Rattle.meaning.specs.Paths.{Class, simple}
-use Rattle.meaning.specs.Trees.{Table, IsTree, Child, Down, here, Reached, Equal}
+use Rattle.meaning.specs.Trees.{Table, IsTree, Down, here, Equal}
 use Rattle.meaning.specs.Keys.{Key, EqualPair, Breaks}
 use Rattle.meaning.specs.Records.{readKey, keyIn, isSome}
 use Rattle.theory_trees.specs.Below.{ParentsSmaller, rigid-node, down-inside}
 use Rattle.theory_trees.specs.Laws.{equal-label, equal-symmetric}
 use Rattle.theory_trees.specs.Reach.{reached-inside, reached-down}
-use Rattle.tree_nodes.specs.FileTable.{fileTable, classBy, TreeBytes}
+use Rattle.tree_nodes.specs.FileTable.{fileTable, classBy}
 use Rattle.tree_nodes.specs.Ready.{Ready}
 use Rattle.tree_nodes.specs.Links.{Nexts}
 use Rattle.tree_nodes.specs.Decides.{Decides}
@@ -26,7 +26,7 @@ use Rattle.tree_pairs.specs.Descent.{Hit, Descending, hit-none}
 use Rattle.tree_classes.specs.Chain.{byClass, next-in}
 use Rattle.tree_reach.specs.Tops.{Tops}
 use Rattle.tree_search.specs.Origin.{OriginIs}
-use Rattle.tree_search.specs.Clash.{Agreeing, Witness, Apart, Memo, Untried, memo-more, other-context, swap-agreeing, witness-breaks}
+use Rattle.tree_search.specs.Clash.{Agreeing, Witness, Apart, Memo, Untried, other-context, swap-agreeing, witness-breaks}
 
 -- What an accepted key gives: it can be read, it has key paths, and they are simple
 pub record GoodKey (body : List ℕ) : Type 0 where
@@ -64,8 +64,9 @@ module _ (κ : ℕ → Class) (t : Table) (key : Key) (a : ℕ) (Left : Type 0) 
   pub searched-none : (found : Bool) (q f s : ℕ) → found ≡ false → (Left → ⊥) → Memo κ t key a seen → Searched κ t key a Left seen found q f s
   searched-none found q f s e n m = record { yes = λ h. absurd (false≢true (sym e ∙ h)); no = λ h. n; memo = λ h. m }
 
-  pub searched-found : (q f s : ℕ) → Witness κ t key q f s → Searched κ t key a Left seen true q f s
-  searched-found q f s w = record { yes = λ h. w; no = λ h. absurd (true≢false h); memo = λ h. absurd (true≢false h) }
+  pub searched-found : (found : Bool) (q f s : ℕ) → found ≡ true → Witness κ t key q f s → Searched κ t key a Left seen found q f s
+  searched-found found q f s e w =
+      record { yes = λ h. w; no = λ h. absurd (true≢false (sym e ∙ h)); memo = λ h. absurd (true≢false (sym e ∙ h)) }
 
 -- y belongs to another target, which agrees with a
 pub record Partner (κ : ℕ → Class) (t : Table) (key : Key) (path : List ℕ) (a y : ℕ) : Type 0 where
@@ -121,6 +122,9 @@ module _ (κ : ℕ → Class) (t : Table) (key : Key) (path class same : List �
           absurd (none (record { b = w .b; q = w .q; down = subst (Down t (w .b) path) j (w .down); different = w .different; agreeing = w .agreeing }))
       after w (no j) = let i = c .later w .1 in omega arith
 
+pub root-alone : (κ : ℕ → Class) (t : Table) (key : Key) (path class : List ℕ) (a x : ℕ) → x ≡ 0 → Pairing κ t key path class a x → ⊥
+root-alone κ t key path class a x z w = let p = w .positive in omega arith
+
 pub passing-end : (κ : ℕ → Class) (t : Table) (key : Key) (path class : List ℕ) (a x y : ℕ) → y ≡ 0 → Passing κ t key path class a x y
     → Pairing κ t key path class a x → ⊥
 passing-end κ t key path class a x y z c w = let b = c .later w .0 in omega arith
@@ -133,9 +137,6 @@ module _ (κ : ℕ → Class) (t : Table) (key : Key) (path class : List ℕ) (a
       go : (run : List ℕ) → length run ≡ 0 → {n : ℕ} → Down t v run n → Pairing κ t key path class a n → Pairing κ t key path class a v
       go [] e (here p) f = subst (Pairing κ t key path class a) (sym p) f
       go (l ∷ run) e d f = absurd (omega arith)
-
-  pub below-root : length rest ≡ 0 → v ≡ 0 → Hit t (Pairing κ t key path class a) v rest → ⊥
-  below-root e z w = let p = hit-here e w .positive in omega arith
 
   pub below-here : (seen : List ℕ) (found : Bool) (q f s : ℕ) → length rest ≡ 0
       → Searched κ t key a (Pairing κ t key path class a v) seen found q f s
@@ -158,8 +159,9 @@ pub record BrokenBy (κ : ℕ → Class) (t : Table) (key : Key) (found : Bool) 
   pub yes : found ≡ true → Witness κ t key q a b
   pub no : found ≡ false → Breaks κ t key → ⊥
 
-pub broken-found : (κ : ℕ → Class) (t : Table) (key : Key) (q a b : ℕ) → Witness κ t key q a b → BrokenBy κ t key true q a b
-broken-found κ t key q a b w = record { yes = λ h. w; no = λ h. absurd (true≢false h) }
+pub broken-found : (κ : ℕ → Class) (t : Table) (key : Key) (found : Bool) (q a b : ℕ) → found ≡ true → Witness κ t key q a b
+    → BrokenBy κ t key found q a b
+broken-found κ t key found q a b e w = record { yes = λ h. w; no = λ h. absurd (true≢false (sym e ∙ h)) }
 
 module _ (κ : ℕ → Class) (t : Table) (key : Key) (path class : List ℕ) where
   pub to-none : SearchedTo κ t key path class 0

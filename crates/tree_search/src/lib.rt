@@ -66,7 +66,8 @@ fn nothing() -> Found
     }
 }
 
-// Node b still has to be tried with a: it is another node, their highest contexts are the same, and no earlier pair of equal nodes led to it.
+// Node b still has to be tried with a: it is another node, their highest contexts are the same, and no earlier pair of equal nodes led to it. Each
+// node holds the number of the target it was last tried with and one more, since 0 stands for none.
 fn untried(tops: &[u16; 4096], seen: &[u16; 4096], a: usize, b: usize) -> bool
     requires { ⌜ (a < 4096) × (b < 4096) ⌝ }
     ensures { λ r. ⌜ Untried (now (tops .entry)) (now (seen .entry)) a b r ⌝ }
@@ -120,7 +121,7 @@ fn try_pair(
     }
 }
 
-// Target a with the targets that the later nodes of the class of x belong to.
+// Target a with the targets that the later nodes of the class of x belong to; the root is alone in its class.
 fn search_from(
     tree: &[u8],
     classes: &[u8; 256],
@@ -137,10 +138,13 @@ fn search_from(
 ) -> Found
     requires { ⌜ Prepared (now classes) (now tree) (now first) (now next) (now class) (now same) × GoodKey (now body) ⌝ }
     requires { ⌜ Tops (fileTable (now tree)) (keyIn (now body) .context) (keyIn (now body) .target) (now tops) × Memo (classBy (now classes)) (fileTable (now tree)) (keyIn (now body)) a (now seen) ⌝ }
-    requires { ⌜ (a < fileTable (now tree) .size) × (0 < x) × (x < fileTable (now tree) .size) × (getD (now tops) a 0 < 4096) ⌝ }
+    requires { ⌜ (a < fileTable (now tree) .size) × (x < fileTable (now tree) .size) × (getD (now tops) a 0 < 4096) ⌝ }
     ensures { λ r. ⌜ Searched (classBy (now (classes .entry))) (fileTable (now (tree .entry))) (keyIn (now (body .entry))) a
         (Pairing (classBy (now (classes .entry))) (fileTable (now (tree .entry))) (keyIn (now (body .entry))) (now (symbols .entry)) (now (class .entry)) a x) (now (seen .exit)) (r .found) (r .context) (r .first) (r .second) ⌝ }
 {
+    if x == 0 {
+        return nothing();
+    }
     let mut y = at(same, x);
     while y != 0 {
         let tried = try_pair(
@@ -158,12 +162,7 @@ fn search_from(
             seen,
         );
         if tried.found {
-            return Found {
-                found: true,
-                context: tried.context,
-                first: tried.first,
-                second: tried.second,
-            };
+            return tried;
         }
         y = at(same, y);
     }
@@ -193,9 +192,6 @@ fn search_below(
         (Hit (fileTable (now (tree .entry))) (Pairing (classBy (now (classes .entry))) (fileTable (now (tree .entry))) (keyIn (now (body .entry))) (now (symbols .entry)) (now (class .entry)) a) v (now (rest .entry))) (now (seen .exit)) (r .found) (r .context) (r .first) (r .second) ⌝ }
 {
     if rest.len() == 0 {
-        if v == 0 {
-            return nothing();
-        }
         return search_from(
             tree,
             classes,
@@ -231,12 +227,7 @@ fn search_below(
                 seen,
             );
             if found.found {
-                return Found {
-                    found: true,
-                    context: found.context,
-                    first: found.first,
-                    second: found.second,
-                };
+                return found;
             }
             child = at(next, child);
         } else {
@@ -322,12 +313,7 @@ pub fn broken_key(
             &mut seen,
         );
         if found.found {
-            return Found {
-                found: true,
-                context: found.context,
-                first: found.first,
-                second: found.second,
-            };
+            return found;
         }
         a += 1;
     }

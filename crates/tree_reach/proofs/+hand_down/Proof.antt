@@ -1,6 +1,6 @@
 use Rattle.tree_reach.specs.Least.{least-empty, least-part, least-long}
 use Rattle.tree_nodes.specs.Ready.{parents-smaller}
-use lib.ListN.{take, drop, length-take, length-drop}
+use lib.ListN.{length-take, length-drop}
 use Prim.Native.Nat.{_+_, _-_}
 use borrow.Author.Needs.{needs}
 use native.Mathlib.Omega.{arith}

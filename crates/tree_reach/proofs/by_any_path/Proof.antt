@@ -1,9 +1,7 @@
 use native.Mathlib.Omega.{arith}
-use Prim.Native.Nat.{ℕ, _+_, _-_, _≤_, _<_}
-use mathlib.Core.Path.{_≡_, refl, sym, _∙_, ap, subst}
-use mathlib.Core.List.{List, [], _∷_}
+use Prim.Native.Nat.{_-_}
+use mathlib.Core.Path.{sym, subst}
 use Rattle.tree_nodes.specs.Ready.{parents-smaller}
-use Rattle.tree_nodes.specs.FileTable.{fileTable}
 use Rattle.tree_reach.specs.Least.{LeastAt, any-root, any-above, any-own}
 use borrow.Author.Needs.{needs}
 use Rattle.tree_reach.proofs.by_any_path.Statement.{statement}

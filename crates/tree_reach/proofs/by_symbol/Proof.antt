@@ -1,10 +1,9 @@
 use Rattle.tree_reach.specs.Least.{LeastAt}
 use Rattle.tree_reach.specs.Tabled.{Tabled}
 use Rattle.tree_nodes.specs.FileTable.{fileTable}
-use mathlib.Core.List.{List, [], _∷_}
-use mathlib.Core.Path.{_≡_, refl, sym, _∙_, ap, subst}
-use Prim.Native.Nat.{ℕ, _+_, _-_, _≤_, _<_}
-use native.Mathlib.Omega.{arith}
+use mathlib.Core.List.{[], _∷_}
+use mathlib.Core.Path.{sym, subst}
+use Prim.Native.Nat.{ℕ, _-_}
 use borrow.Author.Needs.{needs}
 use Rattle.tree_reach.proofs.by_symbol.Statement.{statement}
 use Rattle.tree_reach.proofs.by_symbol.Tie as tie

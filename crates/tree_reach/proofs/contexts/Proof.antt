@@ -2,8 +2,8 @@ use Rattle.tree_reach.specs.Tops.{OwnAt}
 use lib.ListN.{length}
 use Rattle.tree_reach.specs.Tabled.{Tabled, tabled-none, tabled-more, tabled-all}
 use Rattle.tree_nodes.specs.FileTable.{fileTable}
-use mathlib.Core.Path.{_≡_, refl, sym, _∙_, ap, subst}
-use Prim.Native.Nat.{ℕ, _+_, _-_, _≤_, _<_}
+use mathlib.Core.Path.{_≡_, sym, _∙_}
+use Prim.Native.Nat.{_-_, _≤_}
 use native.Mathlib.Omega.{arith}
 use Rattle.tree_reach.proofs.contexts.Statement.{statement}
 use Rattle.tree_reach.proofs.contexts.Tie as tie

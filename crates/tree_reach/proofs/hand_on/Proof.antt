@@ -1,9 +1,8 @@
 use Rattle.tree_reach.specs.Least.{LeastAt, least-all}
 use Rattle.tree_reach.specs.Tabled.{Tabled, tabled-none, tabled-more}
 use Rattle.tree_nodes.specs.FileTable.{fileTable}
-use mathlib.Core.List.{List, [], _∷_}
-use mathlib.Core.Path.{_≡_, refl, sym, _∙_, ap, subst}
-use Prim.Native.Nat.{ℕ, _+_, _-_, _≤_, _<_}
+use mathlib.Core.List.{[], _∷_}
+use Prim.Native.Nat.{_-_, _≤_}
 use native.Mathlib.Omega.{arith}
 use Rattle.tree_reach.proofs.hand_on.Statement.{statement}
 use Rattle.tree_reach.proofs.hand_on.Tie as tie

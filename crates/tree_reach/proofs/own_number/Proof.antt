@@ -1,6 +1,5 @@
 use native.Mathlib.Omega.{arith}
-use Prim.Native.Nat.{ℕ, _+_, _-_, _≤_, _<_}
-use mathlib.Core.Path.{_≡_, refl, sym, _∙_, ap, subst}
+use Prim.Native.Nat.{_-_}
 use Rattle.tree_reach.specs.Tops.{own-context, own-none}
 use borrow.Author.Needs.{needs}
 use Rattle.tree_reach.proofs.own_number.Statement.{statement}

@@ -3,10 +3,10 @@ use Rattle.tree_nodes.specs.FileTable.{fileTable, classBy}
 use Rattle.tree_nodes.specs.Seek.{left}
 use Rattle.tree_pairs.specs.Descent.{Descending, descend-start, descend-next, descend-falls}
 use Rattle.tree_search.specs.Clash.{Memo}
-use Rattle.tree_search.specs.Search.{Pairing, searched-none, searched-found, below-root, below-here, below-none}
+use Rattle.tree_search.specs.Search.{Pairing, searched-none, searched-found, below-here, below-none}
 use native.Mathlib.Omega.{arith}
 use borrow.Author.Needs.{needs}
-use mathlib.Core.Path.{sym, _∙_}
+use mathlib.Core.Path.{_∙_}
 use Prim.Native.Nat.{_+_, _-_}
 use denote.Ref.{now}
 use lib.ListN.{length, take, drop, length-take, length-drop}
@@ -49,44 +49,8 @@ abbrev search-below-μ-loop : search-below-lts.MeasureT-loop
 search-below-μ-loop tree classes first next class same body symbols tops a v rest seen₀ symbol child₀ seen child =
     left (fileTable tree .size) child
 
--- src/lib.rt:197:13
-search-below-nothing-requires : (t : ℕ) → search-below-lts.Need-nothing-requires (
-  nothing-reads.Asked,
-  nothing-reads.Learnt,
-  search-from-reads.Asked,
-  search-from-reads.Learnt,
-  wide-reads.Asked,
-  wide-reads.Learnt,
-  at-reads.Asked,
-  at-reads.Learnt,
-  label-reads.Asked,
-  label-reads.Learnt,
-  search-below-below t,
-  search-below.Post,
-) (search-below-at t) search-below.Post search-below-Inv-loop search-below-μ-loop
-search-below-nothing-requires t c κs = tt
-
--- src/lib.rt:197:13
-search-below-returns : (t : ℕ) → search-below-lts.Need-returns (
-  nothing-reads.Asked,
-  nothing-reads.Learnt,
-  search-from-reads.Asked,
-  search-from-reads.Learnt,
-  wide-reads.Asked,
-  wide-reads.Learnt,
-  at-reads.Asked,
-  at-reads.Learnt,
-  label-reads.Asked,
-  label-reads.Learnt,
-  search-below-below t,
-  search-below.Post,
-) (search-below-at t) search-below.Post search-below-Inv-loop search-below-μ-loop
-search-below-returns t c = let p = c .before .before .before .before .before .before .before .pre .1 in searched-none _ _ _ _ _ _ _ _ _ _ (c .nothing .ensures) (below-root _ _ _ _ _ _ _ _ (c .before .before .if1 .taken) (c .before .if2 .taken)) (p .1 .0 .1)
-
--- src/lib.rt:199:9
+-- src/lib.rt:194:9
 search-below-search-from-requires : (t : ℕ) → search-below-lts.Need-search-from-requires (
-  nothing-reads.Asked,
-  nothing-reads.Learnt,
   search-from-reads.Asked,
   search-from-reads.Learnt,
   wide-reads.Asked,
@@ -97,13 +61,13 @@ search-below-search-from-requires : (t : ℕ) → search-below-lts.Need-search-f
   label-reads.Learnt,
   search-below-below t,
   search-below.Post,
-) (search-below-at t) search-below.Post search-below-Inv-loop search-below-μ-loop
-search-below-search-from-requires t c κs = let p = c .before .before .before .before .before .before .before .pre .1 in (p .0, (p .1 .0, (p .1 .1 .0, (let n = c .before .if2 .left in omega arith), p .1 .1 .1, p .1 .1 .2)))
-
--- src/lib.rt:199:9
-search-below-returns-2 : (t : ℕ) → search-below-lts.Need-returns-2 (
   nothing-reads.Asked,
   nothing-reads.Learnt,
+) (search-below-at t) search-below.Post search-below-Inv-loop search-below-μ-loop
+search-below-search-from-requires t c κs = let p = c .before .before .before .before .before .before .pre .1 in (p .0, (p .1 .0, p .1 .1))
+
+-- src/lib.rt:194:9
+search-below-returns : (t : ℕ) → search-below-lts.Need-returns (
   search-from-reads.Asked,
   search-from-reads.Learnt,
   wide-reads.Asked,
@@ -114,13 +78,13 @@ search-below-returns-2 : (t : ℕ) → search-below-lts.Need-returns-2 (
   label-reads.Learnt,
   search-below-below t,
   search-below.Post,
+  nothing-reads.Asked,
+  nothing-reads.Learnt,
 ) (search-below-at t) search-below.Post search-below-Inv-loop search-below-μ-loop
-search-below-returns-2 t c = below-here _ _ _ _ _ _ _ _ _ _ _ _ _ (c .before .before .before .if1 .taken) (c .search-from .ensures)
+search-below-returns t c = below-here _ _ _ _ _ _ _ _ _ _ _ _ _ (c .before .before .if1 .taken) (c .search-from .ensures)
 
--- src/lib.rt:214:23
+-- src/lib.rt:209:23
 search-below-shared-slice-read-wide : (t : ℕ) → search-below-lts.Need-shared-slice-read-wide (
-  nothing-reads.Asked,
-  nothing-reads.Learnt,
   search-from-reads.Asked,
   search-from-reads.Learnt,
   wide-reads.Asked,
@@ -131,13 +95,13 @@ search-below-shared-slice-read-wide : (t : ℕ) → search-below-lts.Need-shared
   label-reads.Learnt,
   search-below-below t,
   search-below.Post,
+  nothing-reads.Asked,
+  nothing-reads.Learnt,
 ) (search-below-at t) search-below.Post search-below-Inv-loop search-below-μ-loop
 search-below-shared-slice-read-wide t c = let n = c .before .if1 .left in omega arith
 
--- src/lib.rt:214:9
+-- src/lib.rt:209:9
 search-below-wide-requires : (t : ℕ) → search-below-lts.Need-wide-requires (
-  nothing-reads.Asked,
-  nothing-reads.Learnt,
   search-from-reads.Asked,
   search-from-reads.Learnt,
   wide-reads.Asked,
@@ -148,13 +112,13 @@ search-below-wide-requires : (t : ℕ) → search-below-lts.Need-wide-requires (
   label-reads.Learnt,
   search-below-below t,
   search-below.Post,
+  nothing-reads.Asked,
+  nothing-reads.Learnt,
 ) (search-below-at t) search-below.Post search-below-Inv-loop search-below-μ-loop
 search-below-wide-requires t c κs = tt
 
--- src/lib.rt:215:9
+-- src/lib.rt:210:9
 search-below-at-requires : (t : ℕ) → search-below-lts.Need-at-requires (
-  nothing-reads.Asked,
-  nothing-reads.Learnt,
   search-from-reads.Asked,
   search-from-reads.Learnt,
   wide-reads.Asked,
@@ -165,13 +129,13 @@ search-below-at-requires : (t : ℕ) → search-below-lts.Need-at-requires (
   label-reads.Learnt,
   search-below-below t,
   search-below.Post,
+  nothing-reads.Asked,
+  nothing-reads.Learnt,
 ) (search-below-at t) search-below.Post search-below-Inv-loop search-below-μ-loop
 search-below-at-requires t c κs = let p = c .before .before .before .before .before .before .before .pre .1 in let f = p .0 .0 .ready .tree .few in let h = p .1 .1 .1 in omega arith
 
--- src/lib.rt:216:5
+-- src/lib.rt:211:5
 search-below-loop-holds : (t : ℕ) → search-below-lts.Need-loop-holds (
-  nothing-reads.Asked,
-  nothing-reads.Learnt,
   search-from-reads.Asked,
   search-from-reads.Learnt,
   wide-reads.Asked,
@@ -182,13 +146,13 @@ search-below-loop-holds : (t : ℕ) → search-below-lts.Need-loop-holds (
   label-reads.Learnt,
   search-below-below t,
   search-below.Post,
+  nothing-reads.Asked,
+  nothing-reads.Learnt,
 ) (search-below-at t) search-below.Post search-below-Inv-loop search-below-μ-loop
 search-below-loop-holds t c = let p = c .before .before .before .before .before .before .before .before .pre .1 in (p .1 .0 .1, descend-start _ _ _ _ _ _ _ (p .0 .0 .ready .tree .some) (p .0 .0 .ready .links .firsts) (p .1 .1 .1) (c .at .ensures .0))
 
--- src/lib.rt:217:12
+-- src/lib.rt:212:12
 search-below-label-requires : (t : ℕ) → search-below-lts.Need-label-requires (
-  nothing-reads.Asked,
-  nothing-reads.Learnt,
   search-from-reads.Asked,
   search-from-reads.Learnt,
   wide-reads.Asked,
@@ -199,13 +163,13 @@ search-below-label-requires : (t : ℕ) → search-below-lts.Need-label-requires
   label-reads.Learnt,
   search-below-below t,
   search-below.Post,
+  nothing-reads.Asked,
+  nothing-reads.Learnt,
 ) (search-below-at t) search-below.Post search-below-Inv-loop search-below-μ-loop
 search-below-label-requires t c κs = let p = c .before .before .before .before .before .before .before .before .before .before .pre .1 in let w = p .0 .0 .ready .tree .whole in let v = c .before .loop .inv .1 .inside in omega arith
 
--- src/lib.rt:230:17
+-- src/lib.rt:225:17
 search-below-sub-search-below : (t : ℕ) → search-below-lts.Need-sub-search-below (
-  nothing-reads.Asked,
-  nothing-reads.Learnt,
   search-from-reads.Asked,
   search-from-reads.Learnt,
   wide-reads.Asked,
@@ -216,13 +180,13 @@ search-below-sub-search-below : (t : ℕ) → search-below-lts.Need-sub-search-b
   label-reads.Learnt,
   search-below-below t,
   search-below.Post,
+  nothing-reads.Asked,
+  nothing-reads.Learnt,
 ) (search-below-at t) search-below.Post search-below-Inv-loop search-below-μ-loop
 search-below-sub-search-below t c = let n = c .before .before .before .before .before .before .before .if1 .left in omega arith
 
--- src/lib.rt:230:17
+-- src/lib.rt:225:17
 search-below-part-search-below-start : (t : ℕ) → search-below-lts.Need-part-search-below-start (
-  nothing-reads.Asked,
-  nothing-reads.Learnt,
   search-from-reads.Asked,
   search-from-reads.Learnt,
   wide-reads.Asked,
@@ -233,13 +197,13 @@ search-below-part-search-below-start : (t : ℕ) → search-below-lts.Need-part-
   label-reads.Learnt,
   search-below-below t,
   search-below.Post,
+  nothing-reads.Asked,
+  nothing-reads.Learnt,
 ) (search-below-at t) search-below.Post search-below-Inv-loop search-below-μ-loop
 search-below-part-search-below-start t c = let n = c .before .before .before .before .before .before .before .if1 .left in search needs
 
--- src/lib.rt:230:17
+-- src/lib.rt:225:17
 search-below-part-search-below-end : (t : ℕ) → search-below-lts.Need-part-search-below-end (
-  nothing-reads.Asked,
-  nothing-reads.Learnt,
   search-from-reads.Asked,
   search-from-reads.Learnt,
   wide-reads.Asked,
@@ -250,13 +214,13 @@ search-below-part-search-below-end : (t : ℕ) → search-below-lts.Need-part-se
   label-reads.Learnt,
   search-below-below t,
   search-below.Post,
+  nothing-reads.Asked,
+  nothing-reads.Learnt,
 ) (search-below-at t) search-below.Post search-below-Inv-loop search-below-μ-loop
 search-below-part-search-below-end t c = let n = c .before .before .before .before .before .before .before .if1 .left in search needs
 
--- src/lib.rt:218:17
+-- src/lib.rt:213:17
 search-below-search-below-requires : (t : ℕ) → search-below-lts.Need-search-below-requires (
-  nothing-reads.Asked,
-  nothing-reads.Learnt,
   search-from-reads.Asked,
   search-from-reads.Learnt,
   wide-reads.Asked,
@@ -267,13 +231,13 @@ search-below-search-below-requires : (t : ℕ) → search-below-lts.Need-search-
   label-reads.Learnt,
   search-below-below t,
   search-below.Post,
+  nothing-reads.Asked,
+  nothing-reads.Learnt,
 ) (search-below-at t) search-below.Post search-below-Inv-loop search-below-μ-loop
 search-below-search-below-requires t c κs = let p = c .before .before .before .before .before .before .before .before .before .before .before .before .before .before .pre in let v = c .before .before .before .before .before .loop .inv in ((let e = p .0 in let n = c .before .before .before .before .before .before .before .before .before .if1 .left in simp (length-take, length-drop) (omega arith)), (p .1 .0, ((p .1 .1 .0 .0, v .0), (p .1 .1 .1 .0, v .1 .inside, p .1 .1 .1 .2))))
 
--- src/lib.rt:234:17
-search-below-returns-3 : (t : ℕ) → search-below-lts.Need-returns-3 (
-  nothing-reads.Asked,
-  nothing-reads.Learnt,
+-- src/lib.rt:229:17
+search-below-returns-2 : (t : ℕ) → search-below-lts.Need-returns-2 (
   search-from-reads.Asked,
   search-from-reads.Learnt,
   wide-reads.Asked,
@@ -284,13 +248,13 @@ search-below-returns-3 : (t : ℕ) → search-below-lts.Need-returns-3 (
   label-reads.Learnt,
   search-below-below t,
   search-below.Post,
+  nothing-reads.Asked,
+  nothing-reads.Learnt,
 ) (search-below-at t) search-below.Post search-below-Inv-loop search-below-μ-loop
-search-below-returns-3 t c = searched-found _ _ _ _ _ _ _ _ _ (c .before .search-below .ensures .yes (c .if4 .taken))
+search-below-returns-2 t c = searched-found _ _ _ _ _ _ _ _ _ _ (c .if3 .taken) (c .before .search-below .ensures .yes (c .if3 .taken))
 
--- src/lib.rt:241:13
+-- src/lib.rt:231:13
 search-below-at-requires-2 : (t : ℕ) → search-below-lts.Need-at-requires-2 (
-  nothing-reads.Asked,
-  nothing-reads.Learnt,
   search-from-reads.Asked,
   search-from-reads.Learnt,
   wide-reads.Asked,
@@ -301,13 +265,13 @@ search-below-at-requires-2 : (t : ℕ) → search-below-lts.Need-at-requires-2 (
   label-reads.Learnt,
   search-below-below t,
   search-below.Post,
+  nothing-reads.Asked,
+  nothing-reads.Learnt,
 ) (search-below-at t) search-below.Post search-below-Inv-loop search-below-μ-loop
 search-below-at-requires-2 t c κs = let p = c .before .before .before .before .before .before .before .before .before .before .before .before .before .before .before .before .pre .1 in let f = p .0 .0 .ready .tree .few in let v = c .before .before .before .before .before .before .before .loop .inv .1 .inside in omega arith
 
--- src/lib.rt:216:5
+-- src/lib.rt:211:5
 search-below-loop-less : (t : ℕ) → search-below-lts.Need-loop-less (
-  nothing-reads.Asked,
-  nothing-reads.Learnt,
   search-from-reads.Asked,
   search-from-reads.Learnt,
   wide-reads.Asked,
@@ -318,13 +282,13 @@ search-below-loop-less : (t : ℕ) → search-below-lts.Need-loop-less (
   label-reads.Learnt,
   search-below-below t,
   search-below.Post,
+  nothing-reads.Asked,
+  nothing-reads.Learnt,
 ) (search-below-at t) search-below.Post search-below-Inv-loop search-below-μ-loop
 search-below-loop-less t c = let p = c .before .before .before .before .before .before .before .before .before .before .before .before .before .before .before .before .before .pre .1 in descend-falls _ (Pairing (classBy (c .before .before .before .before .before .before .before .before .before .before .before .before .before .before .before .before .before .args .classes .now)) (fileTable (c .before .before .before .before .before .before .before .before .before .before .before .before .before .before .before .before .before .args .tree .now)) (keyIn (c .before .before .before .before .before .before .before .before .before .before .before .before .before .before .before .before .before .args .body .now)) (c .before .before .before .before .before .before .before .before .before .before .before .before .before .before .before .before .before .args .symbols .now) (c .before .before .before .before .before .before .before .before .before .before .before .before .before .before .before .before .before .args .class .now) (c .before .before .before .before .before .before .before .before .before .before .before .before .before .before .before .before .before .args .a)) (c .before .before .before .before .before .before .before .before .before .before .before .before .before .before .before .before .before .args .v) _ _ _ (p .0 .0 .ready .links .nexts) (let n = c .before .before .before .before .before .before .before .loop-test .taken in omega arith) (c .before .before .before .before .before .before .before .before .loop .inv .1 .inside) (c .at2 .ensures .0)
 
--- src/lib.rt:216:5
+-- src/lib.rt:211:5
 search-below-loop-again : (t : ℕ) → search-below-lts.Need-loop-again (
-  nothing-reads.Asked,
-  nothing-reads.Learnt,
   search-from-reads.Asked,
   search-from-reads.Learnt,
   wide-reads.Asked,
@@ -335,13 +299,13 @@ search-below-loop-again : (t : ℕ) → search-below-lts.Need-loop-again (
   label-reads.Learnt,
   search-below-below t,
   search-below.Post,
+  nothing-reads.Asked,
+  nothing-reads.Learnt,
 ) (search-below-at t) search-below.Post search-below-Inv-loop search-below-μ-loop
-search-below-loop-again t c = let p = c .before .before .before .before .before .before .before .before .before .before .before .before .before .before .before .before .before .pre .1 in let r = c .before .before .search-below .ensures in let e = c .before .if4 .left in (r .memo e, descend-next _ _ _ _ _ _ _ _ (p .0 .0 .ready .tree .some) (p .0 .0 .ready .links .nexts) (let n = c .before .before .before .before .before .before .before .loop-test .taken in omega arith) (c .at2 .ensures .0) (λ g w. r .no e w) (c .before .before .before .before .before .before .before .before .loop .inv .1))
+search-below-loop-again t c = let p = c .before .before .before .before .before .before .before .before .before .before .before .before .before .before .before .before .before .pre .1 in let r = c .before .before .search-below .ensures in let e = c .before .if3 .left in (r .memo e, descend-next _ _ _ _ _ _ _ _ (p .0 .0 .ready .tree .some) (p .0 .0 .ready .links .nexts) (let n = c .before .before .before .before .before .before .before .loop-test .taken in omega arith) (c .at2 .ensures .0) (λ g w. r .no e w) (c .before .before .before .before .before .before .before .before .loop .inv .1))
 
--- src/lib.rt:243:13
+-- src/lib.rt:233:13
 search-below-at-requires-3 : (t : ℕ) → search-below-lts.Need-at-requires-3 (
-  nothing-reads.Asked,
-  nothing-reads.Learnt,
   search-from-reads.Asked,
   search-from-reads.Learnt,
   wide-reads.Asked,
@@ -352,13 +316,13 @@ search-below-at-requires-3 : (t : ℕ) → search-below-lts.Need-at-requires-3 (
   label-reads.Learnt,
   search-below-below t,
   search-below.Post,
+  nothing-reads.Asked,
+  nothing-reads.Learnt,
 ) (search-below-at t) search-below.Post search-below-Inv-loop search-below-μ-loop
 search-below-at-requires-3 t c κs = let p = c .before .before .before .before .before .before .before .before .before .before .before .before .pre .1 in let f = p .0 .0 .ready .tree .few in let v = c .before .before .before .loop .inv .1 .inside in omega arith
 
--- src/lib.rt:216:5
+-- src/lib.rt:211:5
 search-below-loop-less-2 : (t : ℕ) → search-below-lts.Need-loop-less-2 (
-  nothing-reads.Asked,
-  nothing-reads.Learnt,
   search-from-reads.Asked,
   search-from-reads.Learnt,
   wide-reads.Asked,
@@ -369,13 +333,13 @@ search-below-loop-less-2 : (t : ℕ) → search-below-lts.Need-loop-less-2 (
   label-reads.Learnt,
   search-below-below t,
   search-below.Post,
+  nothing-reads.Asked,
+  nothing-reads.Learnt,
 ) (search-below-at t) search-below.Post search-below-Inv-loop search-below-μ-loop
 search-below-loop-less-2 t c = let p = c .before .before .before .before .before .before .before .before .before .before .before .before .before .pre .1 in descend-falls _ (Pairing (classBy (c .before .before .before .before .before .before .before .before .before .before .before .before .before .args .classes .now)) (fileTable (c .before .before .before .before .before .before .before .before .before .before .before .before .before .args .tree .now)) (keyIn (c .before .before .before .before .before .before .before .before .before .before .before .before .before .args .body .now)) (c .before .before .before .before .before .before .before .before .before .before .before .before .before .args .symbols .now) (c .before .before .before .before .before .before .before .before .before .before .before .before .before .args .class .now) (c .before .before .before .before .before .before .before .before .before .before .before .before .before .args .a)) (c .before .before .before .before .before .before .before .before .before .before .before .before .before .args .v) _ _ _ (p .0 .0 .ready .links .nexts) (let n = c .before .before .before .loop-test .taken in omega arith) (c .before .before .before .before .loop .inv .1 .inside) (c .at3 .ensures .0)
 
--- src/lib.rt:216:5
+-- src/lib.rt:211:5
 search-below-loop-again-2 : (t : ℕ) → search-below-lts.Need-loop-again-2 (
-  nothing-reads.Asked,
-  nothing-reads.Learnt,
   search-from-reads.Asked,
   search-from-reads.Learnt,
   wide-reads.Asked,
@@ -386,13 +350,13 @@ search-below-loop-again-2 : (t : ℕ) → search-below-lts.Need-loop-again-2 (
   label-reads.Learnt,
   search-below-below t,
   search-below.Post,
+  nothing-reads.Asked,
+  nothing-reads.Learnt,
 ) (search-below-at t) search-below.Post search-below-Inv-loop search-below-μ-loop
-search-below-loop-again-2 t c = let p = c .before .before .before .before .before .before .before .before .before .before .before .before .before .pre .1 in (c .before .before .before .before .loop .inv .0, descend-next _ _ _ _ _ _ _ _ (p .0 .0 .ready .tree .some) (p .0 .0 .ready .links .nexts) (let n = c .before .before .before .loop-test .taken in omega arith) (c .at3 .ensures .0) (λ g w. c .before .if3 .left (c .before .before .label .ensures .0 ∙ g)) (c .before .before .before .before .loop .inv .1))
+search-below-loop-again-2 t c = let p = c .before .before .before .before .before .before .before .before .before .before .before .before .before .pre .1 in (c .before .before .before .before .loop .inv .0, descend-next _ _ _ _ _ _ _ _ (p .0 .0 .ready .tree .some) (p .0 .0 .ready .links .nexts) (let n = c .before .before .before .loop-test .taken in omega arith) (c .at3 .ensures .0) (λ g w. c .before .if2 .left (c .before .before .label .ensures .0 ∙ g)) (c .before .before .before .before .loop .inv .1))
 
--- src/lib.rt:246:5
-search-below-nothing-requires-2 : (t : ℕ) → search-below-lts.Need-nothing-requires-2 (
-  nothing-reads.Asked,
-  nothing-reads.Learnt,
+-- src/lib.rt:236:5
+search-below-nothing-requires : (t : ℕ) → search-below-lts.Need-nothing-requires (
   search-from-reads.Asked,
   search-from-reads.Learnt,
   wide-reads.Asked,
@@ -403,13 +367,13 @@ search-below-nothing-requires-2 : (t : ℕ) → search-below-lts.Need-nothing-re
   label-reads.Learnt,
   search-below-below t,
   search-below.Post,
+  nothing-reads.Asked,
+  nothing-reads.Learnt,
 ) (search-below-at t) search-below.Post search-below-Inv-loop search-below-μ-loop
-search-below-nothing-requires-2 t c κs = tt
+search-below-nothing-requires t c κs = tt
 
--- src/lib.rt:174:1
-search-below-returns-4 : (t : ℕ) → search-below-lts.Need-returns-4 (
-  nothing-reads.Asked,
-  nothing-reads.Learnt,
+-- src/lib.rt:172:1
+search-below-returns-3 : (t : ℕ) → search-below-lts.Need-returns-3 (
   search-from-reads.Asked,
   search-from-reads.Learnt,
   wide-reads.Asked,
@@ -420,13 +384,13 @@ search-below-returns-4 : (t : ℕ) → search-below-lts.Need-returns-4 (
   label-reads.Learnt,
   search-below-below t,
   search-below.Post,
+  nothing-reads.Asked,
+  nothing-reads.Learnt,
 ) (search-below-at t) search-below.Post search-below-Inv-loop search-below-μ-loop
-search-below-returns-4 t c = searched-none _ _ _ _ _ _ _ _ _ _ (c .nothing2 .ensures) (below-none _ _ _ _ _ _ _ _ _ _ (let n = c .before .before .before .before .before .before .if1 .left in omega arith) (c .before .before .before .before .wide .ensures .0) (let n = c .before .loop-test .left in omega arith) (c .before .before .loop .inv .1)) (c .before .before .loop .inv .0)
+search-below-returns-3 t c = searched-none _ _ _ _ _ _ _ _ _ _ (c .nothing .ensures) (below-none _ _ _ _ _ _ _ _ _ _ (let n = c .before .before .before .before .before .before .if1 .left in omega arith) (c .before .before .before .before .wide .ensures .0) (let n = c .before .loop-test .left in omega arith) (c .before .before .loop .inv .1)) (c .before .before .loop .inv .0)
 
 pub +search-below-spec : {M : Type 1} → statement M
 +search-below-spec = close μ-search-below λ t. search-below-lts.spec (
-  nothing-reads.Asked,
-  nothing-reads.Learnt,
   search-from-reads.Asked,
   search-from-reads.Learnt,
   wide-reads.Asked,
@@ -437,15 +401,15 @@ pub +search-below-spec : {M : Type 1} → statement M
   label-reads.Learnt,
   search-below-below t,
   search-below.Post,
+  nothing-reads.Asked,
+  nothing-reads.Learnt,
 )
     (search-below-at t)
     search-below.Post
     search-below-Inv-loop
     search-below-μ-loop
-    (search-below-nothing-requires t)
-    (search-below-returns t)
     (search-below-search-from-requires t)
-    (search-below-returns-2 t)
+    (search-below-returns t)
     (search-below-shared-slice-read-wide t)
     (search-below-wide-requires t)
     (search-below-at-requires t)
@@ -455,12 +419,12 @@ pub +search-below-spec : {M : Type 1} → statement M
     (search-below-part-search-below-start t)
     (search-below-part-search-below-end t)
     (search-below-search-below-requires t)
-    (search-below-returns-3 t)
+    (search-below-returns-2 t)
     (search-below-at-requires-2 t)
     (search-below-loop-less t)
     (search-below-loop-again t)
     (search-below-at-requires-3 t)
     (search-below-loop-less-2 t)
     (search-below-loop-again-2 t)
-    (search-below-nothing-requires-2 t)
-    (search-below-returns-4 t)
+    (search-below-nothing-requires t)
+    (search-below-returns-3 t)

@@ -4,8 +4,7 @@ use Rattle.tree_search.specs.Clash.{Lower, memo-start, memo-end}
 use Rattle.tree_nodes.specs.Ready.{bytes-tree}
 use Rattle.tree_nodes.specs.FileTable.{fileTable, classBy}
 use Rattle.meaning.specs.Records.{keyIn}
-use mathlib.Core.Path.{_≡_, refl, sym, _∙_, ap, subst}
-use Prim.Native.Nat.{ℕ, _+_, _-_, _≤_, _<_}
+use Prim.Native.Nat.{_-_, _≤_}
 use native.Mathlib.Omega.{arith}
 use Rattle.tree_search.proofs.broken_key.Statement.{statement}
 use Rattle.tree_search.proofs.broken_key.Tie as tie
@@ -64,7 +63,7 @@ same-length c = c .before .before .before .before .before .before .before .befor
 
 -- src/lib.rt:325:13
 returns : tie.Need-returns Inv-loop μ-loop
-returns c = broken-found _ _ _ _ _ _ (c .before .search-at .ensures .yes (c .if1 .taken))
+returns c = broken-found _ _ _ _ _ _ _ (c .if1 .taken) (c .before .search-at .ensures .yes (c .if1 .taken))
 
 -- src/lib.rt:332:9
 add-a : tie.Need-add-a Inv-loop μ-loop

@@ -1,7 +1,5 @@
 use Rattle.tree_search.specs.Search.{searched-none, below-apart}
 use Rattle.tree_search.specs.Clash.{no-context}
-use mathlib.Core.Path.{_≡_, refl, sym, _∙_, ap, subst}
-use Prim.Native.Nat.{ℕ, _≤_, _<_}
 use Rattle.tree_nodes.specs.Ready.{parents-smaller}
 use native.Mathlib.Omega.{arith}
 use borrow.Author.Needs.{needs}

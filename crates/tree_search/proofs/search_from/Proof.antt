@@ -1,11 +1,10 @@
 use Rattle.tree_classes.specs.Leaders.{seeking-falls}
-use Rattle.tree_search.specs.Search.{Passing, passing-start, passing-next, passing-end, searched-none, searched-found}
+use Rattle.tree_search.specs.Search.{Passing, passing-start, passing-next, passing-end, root-alone, searched-none, searched-found}
 use Rattle.tree_search.specs.Clash.{Memo}
 use Rattle.tree_nodes.specs.Seek.{left}
 use Rattle.tree_nodes.specs.FileTable.{fileTable, classBy}
 use Rattle.meaning.specs.Records.{keyIn}
-use mathlib.Core.Path.{_≡_, refl, sym, _∙_, ap, subst}
-use Prim.Native.Nat.{ℕ, _+_, _-_, _≤_, _<_}
+use Prim.Native.Nat.{_-_}
 use native.Mathlib.Omega.{arith}
 use Rattle.tree_search.proofs.search_from.Statement.{statement}
 use Rattle.tree_search.proofs.search_from.Tie as tie
@@ -21,41 +20,49 @@ Inv-loop tree classes first next class same body symbols tops a x seen₀ y₀ s
 abbrev μ-loop : tie.MeasureT-loop
 μ-loop tree classes first next class same body symbols tops a x seen₀ y₀ seen y = left (fileTable tree .size) y
 
--- src/lib.rt:144:9
-at-requires : tie.Need-at-requires Inv-loop μ-loop
-at-requires c κs = let p = c .before .before .before .pre in let f = p .0 .0 .ready .tree .few in let h = p .1 .1 .2 in omega arith
-
--- src/lib.rt:145:5
-loop-holds : tie.Need-loop-holds Inv-loop μ-loop
-loop-holds c = let p = c .before .before .before .before .pre in let f = p .0 .0 .ready .tree .few in (p .1 .0 .1, passing-start _ _ _ _ _ _ (p .0 .0 .chained) _ _ _ (p .1 .1 .1) (p .1 .1 .2) (c .at .ensures .0))
-
--- src/lib.rt:146:13
-try-pair-requires : tie.Need-try-pair-requires Inv-loop μ-loop
-try-pair-requires c κs = let p = c .before .before .before .before .before .before .before .pre in let f = p .0 .0 .ready .tree .few in let v = c .before .before .loop .inv in (p .0, ((p .1 .0 .0, v .0), (p .1 .1 .0, v .1 .inside, p .1 .1 .3)))
-
--- src/lib.rt:161:13
-returns : tie.Need-returns Inv-loop μ-loop
-returns c = searched-found _ _ _ _ _ _ _ _ _ (c .before .try-pair .ensures .yes (c .if1 .taken))
-
--- src/lib.rt:168:9
-at-requires-2 : tie.Need-at-requires-2 Inv-loop μ-loop
-at-requires-2 c κs = let p = c .before .before .before .before .before .before .before .before .before .pre in let f = p .0 .0 .ready .tree .few in let h = c .before .before .before .before .loop .inv .1 .inside in omega arith
-
--- src/lib.rt:145:5
-loop-less : tie.Need-loop-less Inv-loop μ-loop
-loop-less c = let p = c .before .before .before .before .before .before .before .before .before .before .pre in seeking-falls _ _ _ (p .0 .0 .chained) _ _ (let n = c .before .before .before .before .loop-test .taken in omega arith) (c .before .before .before .before .before .loop .inv .1 .inside) (c .at2 .ensures .0)
-
--- src/lib.rt:145:5
-loop-again : tie.Need-loop-again Inv-loop μ-loop
-loop-again c = let p = c .before .before .before .before .before .before .before .before .before .before .pre in let r = c .before .before .try-pair .ensures in let e = c .before .if1 .left in (r .memo e, passing-next _ _ _ _ _ _ (p .0 .0 .chained) _ _ _ _ (let n = c .before .before .before .before .loop-test .taken in omega arith) (c .before .before .before .before .before .loop .inv .1) (r .no e) (c .at2 .ensures .0))
-
--- src/lib.rt:170:5
+-- src/lib.rt:145:9
 nothing-requires : tie.Need-nothing-requires Inv-loop μ-loop
 nothing-requires c κs = tt
 
--- src/lib.rt:124:1
+-- src/lib.rt:145:9
+returns : tie.Need-returns Inv-loop μ-loop
+returns c = searched-none _ _ _ _ _ _ _ _ _ _ (c .nothing .ensures) (root-alone _ _ _ _ _ _ _ (c .before .if1 .taken)) (c .before .before .before .before .before .pre .1 .0 .1)
+
+-- src/lib.rt:147:9
+at-requires : tie.Need-at-requires Inv-loop μ-loop
+at-requires c κs = let p = c .before .before .before .before .pre in let f = p .0 .0 .ready .tree .few in let h = p .1 .1 .1 in omega arith
+
+-- src/lib.rt:148:5
+loop-holds : tie.Need-loop-holds Inv-loop μ-loop
+loop-holds c = let p = c .before .before .before .before .before .pre in let f = p .0 .0 .ready .tree .few in (p .1 .0 .1, passing-start _ _ _ _ _ _ (p .0 .0 .chained) _ _ _ (let n = c .before .if1 .left in omega arith) (p .1 .1 .1) (c .at .ensures .0))
+
+-- src/lib.rt:149:13
+try-pair-requires : tie.Need-try-pair-requires Inv-loop μ-loop
+try-pair-requires c κs = let p = c .before .before .before .before .before .before .before .before .pre in let f = p .0 .0 .ready .tree .few in let v = c .before .before .loop .inv in (p .0, ((p .1 .0 .0, v .0), (p .1 .1 .0, v .1 .inside, p .1 .1 .2)))
+
+-- src/lib.rt:164:13
 returns-2 : tie.Need-returns-2 Inv-loop μ-loop
-returns-2 c = searched-none _ _ _ _ _ _ _ _ _ _ (c .nothing .ensures) (passing-end _ _ _ _ _ _ _ _ (let n = c .before .loop-test .left in omega arith) (c .before .before .loop .inv .1)) (c .before .before .loop .inv .0)
+returns-2 c = searched-found _ _ _ _ _ _ _ _ _ _ (c .if2 .taken) (c .before .try-pair .ensures .yes (c .if2 .taken))
+
+-- src/lib.rt:166:9
+at-requires-2 : tie.Need-at-requires-2 Inv-loop μ-loop
+at-requires-2 c κs = let p = c .before .before .before .before .before .before .before .before .before .before .pre in let f = p .0 .0 .ready .tree .few in let h = c .before .before .before .before .loop .inv .1 .inside in omega arith
+
+-- src/lib.rt:148:5
+loop-less : tie.Need-loop-less Inv-loop μ-loop
+loop-less c = let p = c .before .before .before .before .before .before .before .before .before .before .before .pre in seeking-falls _ _ _ (p .0 .0 .chained) _ _ (let n = c .before .before .before .before .loop-test .taken in omega arith) (c .before .before .before .before .before .loop .inv .1 .inside) (c .at2 .ensures .0)
+
+-- src/lib.rt:148:5
+loop-again : tie.Need-loop-again Inv-loop μ-loop
+loop-again c = let p = c .before .before .before .before .before .before .before .before .before .before .before .pre in let r = c .before .before .try-pair .ensures in let e = c .before .if2 .left in (r .memo e, passing-next _ _ _ _ _ _ (p .0 .0 .chained) _ _ _ _ (let n = c .before .before .before .before .loop-test .taken in omega arith) (c .before .before .before .before .before .loop .inv .1) (r .no e) (c .at2 .ensures .0))
+
+-- src/lib.rt:168:5
+nothing-requires-2 : tie.Need-nothing-requires-2 Inv-loop μ-loop
+nothing-requires-2 c κs = tt
+
+-- src/lib.rt:124:1
+returns-3 : tie.Need-returns-3 Inv-loop μ-loop
+returns-3 c = searched-none _ _ _ _ _ _ _ _ _ _ (c .nothing2 .ensures) (passing-end _ _ _ _ _ _ _ _ (let n = c .before .loop-test .left in omega arith) (c .before .before .loop .inv .1)) (c .before .before .loop .inv .0)
 
 pub search-from-spec : {M : Type 1} → statement M
 search-from-spec =
@@ -63,12 +70,14 @@ search-from-spec =
     (tie.spec
     Inv-loop
     μ-loop
+    nothing-requires
+    returns
     at-requires
     loop-holds
     try-pair-requires
-    returns
+    returns-2
     at-requires-2
     loop-less
     loop-again
-    nothing-requires
-    returns-2)
+    nothing-requires-2
+    returns-3)

@@ -1,9 +1,9 @@
 use Rattle.tree_search.specs.Search.{searched-none, searched-found, partner-none, partner-tried, partner-apart}
 use Rattle.tree_search.specs.Clash.{memo-more, disagree, agreeing}
 use Rattle.tree_nodes.specs.Ready.{parents-smaller}
-use borrow.Author.Tests.{not-true, not-false, eqb-true}
-use mathlib.Core.Path.{_≡_, refl, sym, _∙_, ap, subst}
-use Prim.Native.Nat.{ℕ, _+_, _-_, _≤_, _<_}
+use borrow.Author.Tests.{not-true, not-false}
+use mathlib.Core.Path.{refl, sym}
+use Prim.Native.Nat.{_-_}
 use native.Mathlib.Omega.{arith}
 use borrow.Author.Needs.{needs}
 use Rattle.tree_search.proofs.try_pair.Statement.{statement}
@@ -74,7 +74,7 @@ at-requires c κs = search needs
 
 -- src/lib.rt:84:1
 returns-4 : tie.Need-returns-4
-returns-4 c = let p = c .before .before .before .before .before .before .before .before .before .before .before .pre in let f = p .0 .0 .ready .tree .few in let i = c .before .before .before .before .before .before .before .origin .ensures .inside (c .before .before .before .before .before .before .if1 .left) in let u = c .before .before .before .before .untried .ensures .yes (not-false _ (c .before .before .before .if2 .left)) in searched-found _ _ _ _ _ _ _ _ _ (record { agreeing = agreeing _ _ _ _ (parents-smaller (p .0 .0 .ready .tree)) (p .0 .0 .ready .tree .some) f (p .1 .0 .0) _ (p .1 .1 .0) _ i _ _ (p .1 .1 .2) (u .1) (c .at .ensures .0) (c .before .before .agree-all .ensures) (not-false _ (c .before .if3 .left)); different = λ e. u .0 (sym e) })
+returns-4 c = let p = c .before .before .before .before .before .before .before .before .before .before .before .pre in let f = p .0 .0 .ready .tree .few in let i = c .before .before .before .before .before .before .before .origin .ensures .inside (c .before .before .before .before .before .before .if1 .left) in let u = c .before .before .before .before .untried .ensures .yes (not-false _ (c .before .before .before .if2 .left)) in searched-found _ _ _ _ _ _ _ _ _ _ refl (record { agreeing = agreeing _ _ _ _ (parents-smaller (p .0 .0 .ready .tree)) (p .0 .0 .ready .tree .some) f (p .1 .0 .0) _ (p .1 .1 .0) _ i _ _ (p .1 .1 .2) (u .1) (c .at .ensures .0) (c .before .before .agree-all .ensures) (not-false _ (c .before .if3 .left)); different = λ e. u .0 (sym e) })
 
 pub try-pair-spec : {M : Type 1} → statement M
 try-pair-spec =

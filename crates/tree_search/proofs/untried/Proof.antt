@@ -1,7 +1,6 @@
-use mathlib.Core.Path.{_≡_, refl, sym, _∙_, ap, subst}
+use mathlib.Core.Path.{sym, _∙_}
 use Rattle.tree_search.specs.Clash.{untried-same, untried-other, untried-so}
-use borrow.Author.Tests.{not-true, not-false, eqb-true}
-use native.Mathlib.Omega.{arith}
+use borrow.Author.Tests.{not-false, eqb-true}
 use borrow.Author.Needs.{needs}
 use Rattle.tree_search.proofs.untried.Statement.{statement}
 use Rattle.tree_search.proofs.untried.Tie as tie
