@@ -1,5 +1,5 @@
 use Rattle.step_writing.specs.StepLines.{chain-united}
-use Rattle.step_writing.specs.StepFits.{united-bytes}
+use Rattle.step_writing.specs.Parts.{united-bytes}
 use lib.Seq.{length-take-le}
 use mathlib.Core.Path.{sym}
 use borrow.Author.Needs.{needs}
