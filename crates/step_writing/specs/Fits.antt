@@ -62,6 +62,10 @@ body-set {body} {bytes} {count} k a n =
     let b : length (flatten (map pathBytes ps)) ≡ length bytes = ap length (ap (λ (x : List (List ℕ)). flatten (map pathBytes x)) (sym r) ∙ paths-bytes count bytes e) in
     record { ends = e; are = r; few = omega arith; short = omega arith }
 
+-- they have room in a local buffer
+pub body-put : {body bytes : List ℕ} (room : ℕ) → KeyBody body → AtPath (keyIn body .paths) 0 bytes → 128 ≤ room → 0 + length bytes ≤ room
+body-put room k a h = let s = body-set k a refl in omega arith
+
 -- room for one line
 pub record LineRoom (out : List ℕ) (at : ℕ) (context target : List ℕ) : Type 0 where
   pub context-short : length context ≤ 16

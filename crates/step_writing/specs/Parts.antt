@@ -127,3 +127,8 @@ module _ {o e : List ℕ} {at r : ℕ} (rule first : ℕ) (C X : List ℕ) where
       → WroteLines o e at (twoLine rule first 65535 (keyOf C X (pathsOf count (take used end))) ∷ []) r
       → WroteLines o e at (oneLine rule first (keyOf C X ps) ∷ []) r
   of-set s w = of-paths (s .are) w
+
+  pub of-small : {buffer end : List ℕ} {count used : ℕ} {ps : List (List ℕ)} → SmallSet buffer end count used ps
+      → WroteLines o e at (twoLine rule first 65535 (keyOf C X (pathsOf count (take used end))) ∷ []) r
+      → WroteLines o e at (oneLine rule first (keyOf C X ps) ∷ []) r
+  of-small s w = of-paths (s .holds .are) w

@@ -70,22 +70,26 @@ empty-in : {buffer mid : List ℕ} {used : ℕ} → Wrote buffer mid 0 (0 ∷ []
 unfolding bytesOf flatten pathBytes
 empty-in w = set-in ([] ∷ []) (let r = w .room in let a = w .after in let k = w .kept in omega arith) refl (wrote-part w)
 
-pub pair-fits : {buffer mid path : List ℕ} {used : ℕ} → Wrote buffer mid 0 (0 ∷ []) used → length path ≤ 24 → 128 ≤ length buffer → InsertFits mid 1 used path
-pair-fits w h b =
-    let a = w .after in
-    let k = w .kept in
-    record { few = omega arith; path-short = omega arith; small = omega arith; room = omega arith; ends = empty-in w .ends }
+module _ {out line buffer mid : List ℕ} {at from to used : ℕ} (p : PartRoom out at line from to) (w : Wrote buffer mid 0 (0 ∷ []) used) where
+  pub pair-fits : 128 ≤ length buffer → InsertFits mid 1 used (between to (length line) line)
+  pair-fits b =
+      let h = rest-short p in
+      let a = w .after in
+      let k = w .kept in
+      record { few = omega arith; path-short = omega arith; small = omega arith; room = omega arith; ends = empty-in w .ends }
 
-pub pair-in : {buffer mid end path : List ℕ} {used count last : ℕ} → Wrote buffer mid 0 (0 ∷ []) used → length path ≤ 24
-    → Inserted mid 1 used path end count last → SmallSet buffer end count last (withEmpty path)
-pair-in {end = end} {path} {count = count} {last} w h i =
-    let a = w .after in
-    record {
-      holds = subst (SetIn end count last) (ap (insert path) (empty-in w .are) ∙ pair-insert path) (i .holds);
-      kept = i .kept ∙ w .kept;
-      few = let f = i .fewer in omega arith;
-      short = let s = i .shorter in omega arith;
-    }
+  pub pair-in : {end : List ℕ} {count last : ℕ} → Inserted mid 1 used (between to (length line) line) end count last
+      → SmallSet buffer end count last (withEmpty (between to (length line) line))
+  pair-in {end} {count} {last} i =
+      let h = rest-short p in
+      let a = w .after in
+      record {
+        holds = subst (SetIn end count last) (ap (insert (between to (length line) line)) (empty-in w .are) ∙ pair-insert (between to (length line) line))
+            (i .holds);
+        kept = i .kept ∙ w .kept;
+        few = let f = i .fewer in omega arith;
+        short = let s = i .shorter in omega arith;
+      }
 
 -- "S_s with e"
 pub with-fits : {buffer mid body bytes : List ℕ} {used count : ℕ} → KeyBody body → AtPath (keyIn body .paths) 0 bytes → count ≡ length (keyIn body .paths)

@@ -28,7 +28,7 @@ ghost use Rattle.theory_derive.specs.Spots.{holdsEmpty};
 ghost use Rattle.theory_derive.specs.Written.{keyOf, twoLine, oneLine};
 ghost use Rattle.step_writing.specs.Fits.{KeyBody, OfKeyFits};
 ghost use Rattle.step_writing.specs.Lines.{WroteLines};
-ghost use Rattle.step_writing.specs.Parts.{between, keyAlong, PartRoom, FrontRoom, SetFits, UnitedBytes, SmallSet};
+ghost use Rattle.step_writing.specs.Parts.{between, keyAlong, PartRoom, FrontRoom, SetFits, UnitedBytes};
 
 // "an unused premise field is 65535"
 pub const NO_NUMBER: usize = 65535;
@@ -164,15 +164,6 @@ pub fn write_one(
     )
 }
 
-// {empty, p}
-fn pair_empty(buffer: &mut [u8], path: &[u8]) -> Set
-    requires { ⌜ (length (now path) ≤ 24) × (128 ≤ length (now buffer)) ⌝ }
-    ensures { λ r. ⌜ SmallSet (now (buffer .entry)) (now (buffer .exit)) (r .count) (r .used) (withEmpty (now (path .entry))) ⌝ }
-{
-    let used = put_number(buffer, 0, 0);
-    insert_path(buffer, 1, used, path)
-}
-
 // A line with the set {empty, the rest of the line}.
 pub fn write_pair(
     out: &mut [u8],
@@ -187,7 +178,8 @@ pub fn write_pair(
     ensures { λ r. ⌜ WroteLines (now (out .entry)) (now (out .exit)) at (oneLine rule first (keyAlong (now (line .entry)) from to (withEmpty (between to (length (now (line .entry))) (now (line .entry))))) ∷ []) r ⌝ }
 {
     let mut buffer = [0u8; UNITED_BYTES];
-    let set = pair_empty(&mut buffer, &line[to..]);
+    let behind = put_number(&mut buffer, 0, 0);
+    let set = insert_path(&mut buffer, 1, behind, &line[to..]);
     let many = set.count;
     let used = set.used;
     write_part(
@@ -204,16 +196,6 @@ pub fn write_pair(
     )
 }
 
-// "S_s with e"
-fn key_with_empty(buffer: &mut [u8], body: &[u8]) -> Set
-    requires { ⌜ KeyBody (now body) × (128 ≤ length (now buffer)) ⌝ }
-    ensures { λ r. ⌜ SmallSet (now (buffer .entry)) (now (buffer .exit)) (r .count) (r .used) (insert [] (keyIn (now (body .entry)) .paths)) ⌝ }
-{
-    let set = paths(body);
-    let used = put(buffer, 0, set);
-    insert_path(buffer, count(body), used, &set[..0])
-}
-
 // "rule 3: S_s with e"
 pub fn write_with_empty(
     out: &mut [u8],
@@ -228,7 +210,9 @@ pub fn write_with_empty(
     ensures { λ r. ⌜ WroteLines (now (out .entry)) (now (out .exit)) at (oneLine 3 first (keyAlong (now (line .entry)) from to (insert [] (keyIn (now (body .entry)) .paths))) ∷ []) r ⌝ }
 {
     let mut buffer = [0u8; UNITED_BYTES];
-    let set = key_with_empty(&mut buffer, body);
+    let bytes = paths(body);
+    let behind = put(&mut buffer, 0, bytes);
+    let set = insert_path(&mut buffer, count(body), behind, &bytes[..0]);
     let many = set.count;
     let used = set.used;
     write_part(
