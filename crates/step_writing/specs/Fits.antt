@@ -1,10 +1,10 @@
 -- What the writers of a step ask: the sizes of document 01 for keys, and room for a line.
-use Prim.Native.Nat.{ℕ, zero, suc, _+_, _-_, _*_, _<_, _≤_, min}
+use Prim.Native.Nat.{ℕ, zero, suc, _+_, _-_, _*_, _<_, _≤_}
 use mathlib.Core.Path.{_≡_, refl, sym, _∙_, ap, ap₂, subst}
 use mathlib.Core.Bool.{Bool, true, false}
 use mathlib.Core.List.{List, [], _∷_, _++_, map, flatten}
 use native.Mathlib.Omega.{arith}
-use lib.ListN.{length, take, drop, length-take, length-drop}
+use lib.ListN.{length}
 use Rattle.meaning.specs.Limits.{inProfile}
 use Rattle.meaning.specs.Lists.{Each, end, also}
 use Rattle.meaning.specs.Paths.{Label}
@@ -16,7 +16,7 @@ use Rattle.theory_paths.specs.Bools.{Each-of}
 use Rattle.theory_paths.specs.Good.{GoodKey, context-length, target-length, key-path-length, paths-within}
 use Rattle.theory_derive.specs.Bytes.{flatten-length}
 use Rattle.theory_derive.specs.Logic.{each-imp}
-use Rattle.line_writing.specs.LineParts.{LineFits, paths-bytes}
+use Rattle.line_writing.specs.LineParts.{paths-bytes}
 
 -- "a path of 8 symbols and 4 key paths in profile and question"
 pub record KeyFits (k : Key) : Type 0 where
@@ -62,7 +62,11 @@ body-set {body} {bytes} {count} k a n =
     let b : length (flatten (map pathBytes ps)) ≡ length bytes = ap length (ap (λ (x : List (List ℕ)). flatten (map pathBytes x)) (sym r) ∙ paths-bytes count bytes e) in
     record { ends = e; are = r; few = omega arith; short = omega arith }
 
--- room for one line, whose context and target are parts of an asked line
+-- they have room in a local buffer
+pub body-put : {body bytes : List ℕ} (room : ℕ) → KeyBody body → AtPath (keyIn body .paths) 0 bytes → 128 ≤ room → 0 + length bytes ≤ room
+body-put room k a h = let s = body-set k a refl in omega arith
+
+-- room for one line
 pub record LineRoom (out : List ℕ) (at : ℕ) (context target : List ℕ) : Type 0 where
   pub context-short : length context ≤ 16
   pub target-short : length target ≤ 24
@@ -72,33 +76,3 @@ pub record OfKeyFits (out : List ℕ) (at rule : ℕ) (context target body : Lis
   pub rule-fits : rule < 256
   pub line : LineRoom out at context target
   pub key : KeyBody body
-
-pub line-room : {out : List ℕ} {at : ℕ} (line : List ℕ) (i a b : ℕ) → i ≤ 16 → b ≤ 24 → at + 256 ≤ length out
-    → LineRoom out at (take i line) (take (b - a) (drop a line))
-line-room line i a b h k r =
-    record {
-      context-short = let e = length-take i line in omega arith;
-      target-short = let e = length-take (b - a) (drop a line) in omega arith;
-      room = r;
-    }
-
-pub line-fits : {out context target paths : List ℕ} {at rule count : ℕ} → LineRoom out at context target → rule < 256 → count < 256
-    → length paths ≤ 204 → pathsEnd count paths ≡ true → LineFits out at rule context target count paths
-line-fits l r c p e =
-    let a = l .context-short in
-    let b = l .target-short in
-    record {
-      rule-fits = r;
-      count-fits = c;
-      context-short = omega arith;
-      target-short = omega arith;
-      short = omega arith;
-      room = l .room;
-      ends = e;
-    }
-
-pub record FrontRoom (front : List ℕ) (many : ℕ) (set : List ℕ) : Type 0 where
-  pub front-short : length front ≤ 16
-  pub few : many ≤ 8
-  pub short : length set ≤ 72
-  pub ends : pathsEnd many set ≡ true

@@ -5,7 +5,7 @@ use mathlib.Core.Bool.{Bool, true, false, cond, _||_}
 use mathlib.Core.List.{List, [], _∷_, _++_, map, flatten, append-nil}
 use native.Mathlib.Omega.{arith}
 use lib.Dec.{ltb, eqb}
-use lib.ListN.{length, take, drop, length-take}
+use lib.ListN.{length, take, drop}
 use borrow.Author.Tests.{le-ltb, ne-eqb}
 use Rattle.meaning.specs.Lists.{any, isEmpty, same, lower, before}
 use Rattle.meaning.specs.Rules.{withEmpty}
@@ -18,45 +18,36 @@ use Rattle.line_writing.specs.LineParts.{LineFits, WroteLine, Sized}
 use Rattle.set_writing.specs.Encoded.{SetIn, set-in, bytesOf}
 use Rattle.set_writing.specs.Places.{some-left, rest-left, paths-left}
 use Rattle.set_writing.specs.Inserts.{InsertFits, Inserted}
-use Rattle.set_writing.specs.Fronts.{FrontFits, Fronted, inFront}
 use Rattle.theory_derive.specs.Sets.{insert}
 use Rattle.theory_derive.specs.Spots.{holdsEmpty}
 use Rattle.theory_derive.specs.Written.{keyOf, twoLine, oneLine}
-use Rattle.step_writing.specs.Fits.{KeyBody, BodySet, body-set, LineRoom, OfKeyFits, line-fits, FrontRoom}
-use Rattle.step_writing.specs.Lines.{WroteLines, line-one, lines-is}
-
--- the line that was written has these paths
-pub line-of : {o e : List ℕ} {at r : ℕ} (rule first : ℕ) (C X : List ℕ) (count : ℕ) (bytes : List ℕ) {ps : List (List ℕ)} → pathsOf count bytes ≡ ps
-    → WroteLine o e at (lineBytes (twoLine rule first 65535 (keyOf C X (pathsOf count bytes)))) r → WroteLines o e at (oneLine rule first (keyOf C X ps) ∷ []) r
-unfolding oneLine twoLine
-line-of {o} {e} {at} {r} rule first C X count bytes p w =
-    lines-is (ap (λ (s : List (List ℕ)). oneLine rule first (keyOf C X s) ∷ []) p) (line-one (twoLine rule first 65535 (keyOf C X (pathsOf count bytes))) w)
+use Rattle.step_writing.specs.Fits.{KeyBody, BodySet, body-set, LineRoom, OfKeyFits}
+use Rattle.step_writing.specs.Lines.{WroteLines, line-one}
+use Rattle.step_writing.specs.Parts.{between, PartRoom, SetFits, SmallSet, rest-short, set-in-fits, of-body}
 
 -- ---- the paths of a key
 
-pub of-key-fits : {out context target body bytes : List ℕ} {at rule count : ℕ} → OfKeyFits out at rule context target body
-    → AtPath (keyIn body .paths) 0 bytes → count ≡ length (keyIn body .paths) → LineFits out at rule context target count bytes
-of-key-fits f a n =
-    let s = body-set (f .key) a n in
-    let k = s .few in
-    let l = s .short in
-    line-fits (f .line) (f .rule-fits) (omega arith) (omega arith) (s .ends)
+module _ {body bytes : List ℕ} {count : ℕ} (a : AtPath (keyIn body .paths) 0 bytes) (n : count ≡ length (keyIn body .paths)) where
+  pub of-key-fits : {out context target : List ℕ} {at rule : ℕ} → OfKeyFits out at rule context target body
+      → LineFits out at rule context target count bytes
+  of-key-fits f =
+      let s = body-set (f .key) a n in
+      record {
+        rule-fits = f .rule-fits;
+        count-fits = omega arith;
+        context-short = omega arith;
+        target-short = omega arith;
+        short = omega arith;
+        room = f .line .room;
+        ends = s .ends;
+      }
 
-pub of-key-wrote : {o e body bytes : List ℕ} {at r count : ℕ} (rule first : ℕ) (C X : List ℕ) → KeyBody body → AtPath (keyIn body .paths) 0 bytes
-    → count ≡ length (keyIn body .paths) → WroteLine o e at (lineBytes (twoLine rule first 65535 (keyOf C X (pathsOf count bytes)))) r
-    → WroteLines o e at (oneLine rule first (keyOf C X (keyIn body .paths)) ∷ []) r
-of-key-wrote {body = body} {bytes} {count = count} rule first C X k a n w = line-of rule first C X count bytes (body-set k a n .are) w
+  pub of-key-wrote : {o e : List ℕ} {at r : ℕ} (rule first : ℕ) (C X : List ℕ) → KeyBody body
+      → WroteLine o e at (lineBytes (twoLine rule first 65535 (keyOf C X (pathsOf count bytes)))) r
+      → WroteLines o e at (oneLine rule first (keyOf C X (keyIn body .paths)) ∷ []) r
+  of-key-wrote rule first C X k w = of-body rule first C X k a n (line-one _ w)
 
 -- ---- a set in a local buffer
-
-pub set-fits : {out context target buffer : List ℕ} {at rule count used : ℕ} {ps : List (List ℕ)} → LineRoom out at context target → rule < 256
-    → SetIn buffer count used ps → count < 256 → used ≤ 204 → LineFits out at rule context target count (take used buffer)
-set-fits {buffer = buffer} {used = used} l r s c u = line-fits l r c (let e = length-take used buffer in omega arith) (s .ends)
-
-pub set-wrote : {o e buffer : List ℕ} {at r count used : ℕ} {ps : List (List ℕ)} (rule first : ℕ) (C X : List ℕ) → SetIn buffer count used ps
-    → WroteLine o e at (lineBytes (twoLine rule first 65535 (keyOf C X (pathsOf count (take used buffer))))) r
-    → WroteLines o e at (oneLine rule first (keyOf C X ps) ∷ []) r
-set-wrote {buffer = buffer} {count = count} {used} rule first C X s w = line-of rule first C X count (take used buffer) (s .are) w
 
 -- one path
 pub one-in : {z buffer path : List ℕ} {used : ℕ} → Sized z buffer 0 (pathBytes path) (length path + 1) used → SetIn buffer 1 used (path ∷ [])
@@ -65,12 +56,9 @@ one-in {path = path} w =
     set-in (path ∷ []) (let r = w .wrote .room in let a = w .wrote .after in let k = w .wrote .kept in omega arith) refl
     (wrote-part (w .wrote) ∙ sym (append-nil (pathBytes path)))
 
--- A small set in a buffer that keeps its length
-pub record PairIn (buffer end : List ℕ) (count used : ℕ) (ps : List (List ℕ)) : Type 0 where
-  pub holds : SetIn end count used ps
-  pub kept : length end ≡ length buffer
-  pub few : count ≤ 5
-  pub short : used ≤ 64
+pub one-fits : {out line z buffer : List ℕ} {at from to used : ℕ} → PartRoom out at line from to
+    → Sized z buffer 0 (pathBytes (between to (length line) line)) (length (between to (length line) line) + 1) used → SetFits 1 (take used buffer)
+one-fits r w = set-in-fits (one-in w) (omega arith) (let s = w .size in let h = rest-short r in omega arith)
 
 -- {empty, p}
 pair-insert : (p : List ℕ) → insert p ([] ∷ []) ≡ withEmpty p
@@ -82,22 +70,26 @@ empty-in : {buffer mid : List ℕ} {used : ℕ} → Wrote buffer mid 0 (0 ∷ []
 unfolding bytesOf flatten pathBytes
 empty-in w = set-in ([] ∷ []) (let r = w .room in let a = w .after in let k = w .kept in omega arith) refl (wrote-part w)
 
-pub pair-fits : {buffer mid path : List ℕ} {used : ℕ} → Wrote buffer mid 0 (0 ∷ []) used → length path ≤ 24 → 128 ≤ length buffer → InsertFits mid 1 used path
-pair-fits w h b =
-    let a = w .after in
-    let k = w .kept in
-    record { few = omega arith; path-short = omega arith; small = omega arith; room = omega arith; ends = empty-in w .ends }
+module _ {out line buffer mid : List ℕ} {at from to used : ℕ} (p : PartRoom out at line from to) (w : Wrote buffer mid 0 (0 ∷ []) used) where
+  pub pair-fits : 128 ≤ length buffer → InsertFits mid 1 used (between to (length line) line)
+  pair-fits b =
+      let h = rest-short p in
+      let a = w .after in
+      let k = w .kept in
+      record { few = omega arith; path-short = omega arith; small = omega arith; room = omega arith; ends = empty-in w .ends }
 
-pub pair-in : {buffer mid end path : List ℕ} {used count last : ℕ} → Wrote buffer mid 0 (0 ∷ []) used → length path ≤ 24
-    → Inserted mid 1 used path end count last → PairIn buffer end count last (withEmpty path)
-pair-in {end = end} {path} {count = count} {last} w h i =
-    let a = w .after in
-    record {
-      holds = subst (SetIn end count last) (ap (insert path) (empty-in w .are) ∙ pair-insert path) (i .holds);
-      kept = i .kept ∙ w .kept;
-      few = let f = i .fewer in omega arith;
-      short = let s = i .shorter in omega arith;
-    }
+  pub pair-in : {end : List ℕ} {count last : ℕ} → Inserted mid 1 used (between to (length line) line) end count last
+      → SmallSet buffer end count last (withEmpty (between to (length line) line))
+  pair-in {end} {count} {last} i =
+      let h = rest-short p in
+      let a = w .after in
+      record {
+        holds = subst (SetIn end count last) (ap (insert (between to (length line) line)) (empty-in w .are) ∙ pair-insert (between to (length line) line))
+            (i .holds);
+        kept = i .kept ∙ w .kept;
+        few = let f = i .fewer in omega arith;
+        short = let s = i .shorter in omega arith;
+      }
 
 -- "S_s with e"
 pub with-fits : {buffer mid body bytes : List ℕ} {used count : ℕ} → KeyBody body → AtPath (keyIn body .paths) 0 bytes → count ≡ length (keyIn body .paths)
@@ -112,7 +104,7 @@ with-fits {count = count} k a n w b =
 
 pub with-in : {buffer mid end body bytes : List ℕ} {used count many last : ℕ} → KeyBody body → AtPath (keyIn body .paths) 0 bytes
     → count ≡ length (keyIn body .paths) → Wrote buffer mid 0 bytes used → Inserted mid count used (take 0 bytes) end many last
-    → PairIn buffer end many last (insert [] (keyIn body .paths))
+    → SmallSet buffer end many last (insert [] (keyIn body .paths))
 with-in {end = end} {count = count} {many} {last} k a n w i =
     let s = body-set k a n in
     let c = s .few in
@@ -124,13 +116,6 @@ with-in {end = end} {count = count} {many} {last} k a n w i =
       few = let f = i .fewer in omega arith;
       short = let x = i .shorter in omega arith;
     }
-
--- a path in front of each
-pub front-fits : {buffer front set : List ℕ} {many : ℕ} → FrontRoom front many set → 256 ≤ length buffer → FrontFits buffer front many set
-front-fits f b =
-    let m = f .few in
-    let s = f .short in
-    record { ends = f .ends; front-short = f .front-short; paths-short = omega arith; room = omega arith }
 
 -- ---- S holds the empty path
 

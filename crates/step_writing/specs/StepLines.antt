@@ -7,11 +7,10 @@ use native.Mathlib.Omega.{arith}
 use lib.ListN.{length, take, drop, length-take}
 use Rattle.meaning.specs.Rules.{Line, withEmpty}
 use Rattle.meaning.specs.Keys.{Key}
-use Rattle.meaning.specs.Records.{keyIn, lineBytes}
+use Rattle.meaning.specs.Records.{keyIn}
 use Rattle.shapes.specs.Parts.{pathsEnd, pathsOf}
 use Rattle.shapes.specs.KeyPaths.{AtPath}
 use Rattle.writing.specs.Wrote.{Wrote, wrote-part}
-use Rattle.line_writing.specs.LineParts.{WroteLine}
 use Rattle.set_writing.specs.Encoded.{SetIn}
 use Rattle.set_writing.specs.Unions.{UniteFits, United, unitedOf}
 use Rattle.set_writing.specs.Fronts.{inFront}
@@ -19,94 +18,84 @@ use Rattle.theory_derive.specs.Sets.{insert, unite}
 use Rattle.theory_derive.specs.Spots.{holdsEmpty}
 use Rattle.theory_derive.specs.Written.{keyOf, twoLine, oneLine}
 use Rattle.step_writing.specs.Fits.{KeyBody, BodySet, body-set}
-use Rattle.step_writing.specs.Lines.{WroteLines, lines-more, lines-is, line-one}
-use Rattle.step_writing.specs.StepFits.{UnitedSet}
-
--- the symbols from index a up to b
-abbrev pub between : ℕ → ℕ → List ℕ → List ℕ
-between a b line = take (b - a) (drop a line)
+use Rattle.step_writing.specs.Lines.{WroteLines, lines-more, lines-is}
+pub use Rattle.step_writing.specs.Parts.{between}
+use Rattle.step_writing.specs.Parts.{keyAlong, SmallSet}
 
 unfoldable pub openingOf : (line : List ℕ) (s : Key) (number i k lines : ℕ) → List Line
 openingOf line s number i k lines =
     oneLine 0 number (keyOf (s .context) (s .target) (s .paths)) ∷ oneLine 5 lines (keyOf (take i line) (s .target) (s .paths))
-    ∷ oneLine 6 (lines + 1) (keyOf (take i line) (between i k line) (s .paths)) ∷ []
+    ∷ oneLine 6 (lines + 1) (keyAlong line i k (s .paths)) ∷ []
 
 unfoldable pub unitedBy : (asked s : Key) (front : ℕ) → List (List ℕ)
 unitedBy asked s front = cond (holdsEmpty asked) (unite (asked .paths) (map (drop front) (s .paths))) (asked .paths)
 
+-- the lines up to the two that rule 9 joins
+abbrev pub meetingLinesOf : (line : List ℕ) (n : ℕ) (asked : Key) (U : List (List ℕ)) (i k lines : ℕ) → List Line
+meetingLinesOf line n asked U i k lines =
+    oneLine 3 (lines + 2) (keyAlong line i k (inFront (between k n line) U)) ∷ oneLine 7 (lines - 1) (keyAlong line k n (asked .paths))
+    ∷ oneLine 3 (lines + 4) (keyAlong line k n U) ∷ []
+
 unfoldable pub chainLinesOf : (line : List ℕ) (n : ℕ) (asked : Key) (U : List (List ℕ)) (i k lines : ℕ) → List Line
 chainLinesOf line n asked U i k lines =
-    oneLine 3 (lines + 2) (keyOf (take i line) (between i k line) (inFront (between k n line) U))
-    ∷ oneLine 7 (lines - 1) (keyOf (take k line) (between k n line) (asked .paths))
-    ∷ oneLine 3 (lines + 4) (keyOf (take k line) (between k n line) U)
-    ∷ twoLine 9 (lines + 3) (lines + 5) (keyOf (take i line) (between i n line) U)
-    ∷ cond (holdsEmpty asked) (oneLine 2 (lines + 6) (keyOf (take i line) (between i n line) (asked .paths)) ∷ []) []
+    meetingLinesOf line n asked U i k lines
+    ++ (twoLine 9 (lines + 3) (lines + 5) (keyAlong line i n U)
+    ∷ cond (holdsEmpty asked) (oneLine 2 (lines + 6) (keyAlong line i n (asked .paths)) ∷ []) [])
 
 unfoldable pub endLinesOf : (line : List ℕ) (n : ℕ) (asked : Key) (i lines : ℕ) → List Line
 endLinesOf line n asked i lines =
-    oneLine 4 (lines + 2) (keyOf (take i line) (between i n line) (between n (length line) line ∷ []))
-    ∷ oneLine 3 (lines + 3) (keyOf (take i line) (between i n line) (asked .paths)) ∷ []
+    oneLine 4 (lines + 2) (keyAlong line i n (between n (length line) line ∷ [])) ∷ oneLine 3 (lines + 3) (keyAlong line i n (asked .paths)) ∷ []
 
 unfoldable pub emptyLinesOf : (line : List ℕ) (n : ℕ) (asked s : Key) (i k lines : ℕ) → List Line
 emptyLinesOf line n asked s i k lines =
-    oneLine 3 (lines + 2) (keyOf (take i line) (between i k line) (insert [] (s .paths)))
-    ∷ oneLine 2 (lines + 3) (keyOf (take i line) (between i k line) (withEmpty (between k (length line) line)))
-    ∷ oneLine 8 (lines + 4) (keyOf (take i line) (between i n line) (withEmpty (between n (length line) line)))
-    ∷ oneLine 3 (lines + 5) (keyOf (take i line) (between i n line) (asked .paths)) ∷ []
+    oneLine 3 (lines + 2) (keyAlong line i k (insert [] (s .paths)))
+    ∷ oneLine 2 (lines + 3) (keyAlong line i k (withEmpty (between k (length line) line)))
+    ∷ oneLine 8 (lines + 4) (keyAlong line i n (withEmpty (between n (length line) line)))
+    ∷ oneLine 3 (lines + 5) (keyAlong line i n (asked .paths)) ∷ []
 
--- ---- one law for each return
+-- ---- one law for each return; what was written last stands first
 
 module _ {o a b d : List ℕ} {at p q r : ℕ} (line : List ℕ) (s : Key) (number i k lines : ℕ) where
-  pub opening-wrote : {C X : List ℕ} → C ≡ s .context → X ≡ s .target → WroteLines o a at (oneLine 0 number (keyOf C X (s .paths)) ∷ []) p
+  pub opening-wrote : {C X : List ℕ} → WroteLines b d q (oneLine 6 (lines + 1) (keyAlong line i k (s .paths)) ∷ []) r
       → WroteLines a b p (oneLine 5 lines (keyOf (take i line) X (s .paths)) ∷ []) q
-      → WroteLines b d q (oneLine 6 (lines + 1) (keyOf (take i line) (between i k line) (s .paths)) ∷ []) r
+      → WroteLines o a at (oneLine 0 number (keyOf C X (s .paths)) ∷ []) p → C ≡ s .context → X ≡ s .target
       → WroteLines o d at (openingOf line s number i k lines) r
   unfolding openingOf
-  opening-wrote c x w v u =
+  opening-wrote u v w c x =
       lines-is
-      (ap₂ (λ (C X : List ℕ).
-      oneLine 0 number (keyOf C X (s .paths)) ∷ oneLine 5 lines (keyOf (take i line) X (s .paths))
-      ∷ oneLine 6 (lines + 1) (keyOf (take i line) (between i k line) (s .paths)) ∷ []) c x)
+      (ap₂ (λ (C X : List ℕ). oneLine 0 number (keyOf C X (s .paths)) ∷ oneLine 5 lines (keyOf (take i line) X (s .paths)) ∷ oneLine 6 (lines + 1) (keyAlong line i k (s .paths)) ∷ [])
+      c x)
       (lines-more w (lines-more v u))
 
-module _ {o a b c d : List ℕ} {at p q r t : ℕ} (line : List ℕ) (n : ℕ) (asked : Key) (U : List (List ℕ)) (i k lines : ℕ)
-    (w : WroteLines o a at (oneLine 3 (lines + 2) (keyOf (take i line) (between i k line) (inFront (between k n line) U)) ∷ []) p)
-    (v : WroteLines a b p (oneLine 7 (lines - 1) (keyOf (take k line) (between k n line) (asked .paths)) ∷ []) q)
-    (u : WroteLine b c q (lineBytes (twoLine 3 (lines + 4) 65535 (keyOf (take k line) (between k n line) U))) r)
-    (x : WroteLine c d r (lineBytes (twoLine 9 (lines + 3) (lines + 5) (keyOf (take i line) (between i n line) U))) t) where
-  chain-four : WroteLines o d at
-      (oneLine 3 (lines + 2) (keyOf (take i line) (between i k line) (inFront (between k n line) U))
-      ∷ oneLine 7 (lines - 1) (keyOf (take k line) (between k n line) (asked .paths))
-      ∷ oneLine 3 (lines + 4) (keyOf (take k line) (between k n line) U)
-      ∷ twoLine 9 (lines + 3) (lines + 5) (keyOf (take i line) (between i n line) U) ∷ []) t
-  unfolding oneLine twoLine
-  chain-four = lines-more w (lines-more v (lines-more (line-one _ u) (line-one _ x)))
-
-  pub chain-wrote : holdsEmpty asked ≡ false → WroteLines o d at (chainLinesOf line n asked U i k lines) t
+module _ {o a b : List ℕ} {at p q : ℕ} (line : List ℕ) (n : ℕ) (asked : Key) (U : List (List ℕ)) (i k lines : ℕ) where
+  pub chain-wrote : WroteLines a b p (twoLine 9 (lines + 3) (lines + 5) (keyAlong line i n U) ∷ []) q
+      → WroteLines o a at (meetingLinesOf line n asked U i k lines) p → {e : Bool} → e ≡ holdsEmpty asked → e ≡ false
+      → WroteLines o b at (chainLinesOf line n asked U i k lines) q
   unfolding chainLinesOf
-  chain-wrote e = rw e chain-four
+  chain-wrote v w e t = rw (sym e ∙ t) (lines-more w v)
 
-  pub chain-wrote-empty : holdsEmpty asked ≡ true → {f : List ℕ} {l : ℕ}
-      → WroteLines d f t (oneLine 2 (lines + 6) (keyOf (take i line) (between i n line) (asked .paths)) ∷ []) l
-      → WroteLines o f at (chainLinesOf line n asked U i k lines) l
+  pub chain-wrote-empty : {d : List ℕ} {r : ℕ} → WroteLines b d q (oneLine 2 (lines + 6) (keyAlong line i n (asked .paths)) ∷ []) r
+      → WroteLines a b p (twoLine 9 (lines + 3) (lines + 5) (keyAlong line i n U) ∷ []) q
+      → WroteLines o a at (meetingLinesOf line n asked U i k lines) p → {e : Bool} → e ≡ holdsEmpty asked → e ≡ true
+      → WroteLines o d at (chainLinesOf line n asked U i k lines) r
   unfolding chainLinesOf
-  chain-wrote-empty e y = rw e (lines-more chain-four y)
+  chain-wrote-empty u v w e t = rw (sym e ∙ t) (lines-more w (lines-more v u))
 
-module _ {o a b : List ℕ} {at p q : ℕ} (line : List ℕ) (n : ℕ) (asked : Key) (i lines : ℕ) where
-  pub end-wrote : WroteLines o a at (oneLine 4 (lines + 2) (keyOf (take i line) (between i n line) (between n (length line) line ∷ [])) ∷ []) p
-      → WroteLines a b p (oneLine 3 (lines + 3) (keyOf (take i line) (between i n line) (asked .paths)) ∷ []) q
-      → WroteLines o b at (endLinesOf line n asked i lines) q
-  unfolding endLinesOf
-  end-wrote w v = lines-more w v
+pub end-wrote : {o a b : List ℕ} {at p q : ℕ} (line : List ℕ) (n : ℕ) (asked : Key) (i lines : ℕ)
+    → WroteLines a b p (oneLine 3 (lines + 3) (keyAlong line i n (asked .paths)) ∷ []) q
+    → WroteLines o a at (oneLine 4 (lines + 2) (keyAlong line i n (between n (length line) line ∷ [])) ∷ []) p
+    → WroteLines o b at (endLinesOf line n asked i lines) q
+unfolding endLinesOf
+end-wrote line n asked i lines v w = lines-more w v
 
-module _ {o a b c d : List ℕ} {at p q r t : ℕ} (line : List ℕ) (n : ℕ) (asked s : Key) (i k lines : ℕ) where
-  pub empty-wrote : WroteLines o a at (oneLine 3 (lines + 2) (keyOf (take i line) (between i k line) (insert [] (s .paths))) ∷ []) p
-      → WroteLines a b p (oneLine 2 (lines + 3) (keyOf (take i line) (between i k line) (withEmpty (between k (length line) line))) ∷ []) q
-      → WroteLines b c q (oneLine 8 (lines + 4) (keyOf (take i line) (between i n line) (withEmpty (between n (length line) line))) ∷ []) r
-      → WroteLines c d r (oneLine 3 (lines + 5) (keyOf (take i line) (between i n line) (asked .paths)) ∷ []) t
-      → WroteLines o d at (emptyLinesOf line n asked s i k lines) t
-  unfolding emptyLinesOf
-  empty-wrote w v u x = lines-more w (lines-more v (lines-more u x))
+pub empty-wrote : {o a b c d : List ℕ} {at p q r t : ℕ} (line : List ℕ) (n : ℕ) (asked s : Key) (i k lines : ℕ)
+    → WroteLines c d r (oneLine 3 (lines + 5) (keyAlong line i n (asked .paths)) ∷ []) t
+    → WroteLines b c q (oneLine 8 (lines + 4) (keyAlong line i n (withEmpty (between n (length line) line))) ∷ []) r
+    → WroteLines a b p (oneLine 2 (lines + 3) (keyAlong line i k (withEmpty (between k (length line) line))) ∷ []) q
+    → WroteLines o a at (oneLine 3 (lines + 2) (keyAlong line i k (insert [] (s .paths))) ∷ []) p
+    → WroteLines o d at (emptyLinesOf line n asked s i k lines) t
+unfolding emptyLinesOf
+empty-wrote line n asked s i k lines x u v w = lines-more w (lines-more v (lines-more u x))
 
 -- ---- U
 
@@ -124,7 +113,7 @@ module _ {buffer asked cited set : List ℕ} {many : ℕ} (ka : KeyBody asked) (
 
   pub united-yes : {bytes : List ℕ} {count : ℕ} (front : ℕ) → AtPath (keyIn cited .paths) 0 bytes → count ≡ length (keyIn cited .paths)
       → {e : Bool} → e ≡ holdsEmpty (keyIn asked) → e ≡ true
-      → {end : List ℕ} {all used : ℕ} → United buffer many set front count bytes end all used → UnitedSet buffer end all used (unitedBy (keyIn asked) (keyIn cited) front)
+      → {end : List ℕ} {all used : ℕ} → United buffer many set front count bytes end all used → SmallSet buffer end all used (unitedBy (keyIn asked) (keyIn cited) front)
   unfolding unitedBy unitedOf
   united-yes front b m e t {end} {all} {used} u =
       let s = body-set ka a n in
@@ -141,7 +130,7 @@ module _ {buffer asked cited set : List ℕ} {many : ℕ} (ka : KeyBody asked) (
       }
 
   pub united-no : (front : ℕ) → {e : Bool} → e ≡ holdsEmpty (keyIn asked) → e ≡ false → {end : List ℕ} {used : ℕ} → Wrote buffer end 0 set used
-      → UnitedSet buffer end many used (unitedBy (keyIn asked) (keyIn cited) front)
+      → SmallSet buffer end many used (unitedBy (keyIn asked) (keyIn cited) front)
   unfolding unitedBy
   united-no front e t {end} {used} w =
       let s = body-set ka a n in
@@ -165,6 +154,6 @@ module _ {buffer asked cited set : List ℕ} {many : ℕ} (ka : KeyBody asked) (
 
 -- U in the local buffer is the set that the lines are written with
 pub chain-united : {o d buffer end : List ℕ} {at t count used : ℕ} (line : List ℕ) (n : ℕ) (asked : Key) {U : List (List ℕ)} (i k lines : ℕ)
-    → UnitedSet buffer end count used U → WroteLines o d at (chainLinesOf line n asked (pathsOf count (take used end)) i k lines) t
+    → SmallSet buffer end count used U → WroteLines o d at (chainLinesOf line n asked (pathsOf count (take used end)) i k lines) t
     → WroteLines o d at (chainLinesOf line n asked U i k lines) t
 chain-united line n asked i k lines u w = lines-is (ap (λ (x : List (List ℕ)). chainLinesOf line n asked x i k lines) (u .holds .are)) w

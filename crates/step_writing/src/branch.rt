@@ -2,7 +2,7 @@
 use crate::single::PREFIX_EPSILON;
 use crate::single::SUBNODES_EPSILON;
 use crate::single::SUPERKEY;
-use crate::single::write_of_key;
+use crate::single::write_along;
 use crate::single::write_one;
 use crate::single::write_pair;
 use crate::single::write_with_empty;
@@ -27,23 +27,8 @@ pub fn write_end(
     requires { ⌜ StepFits (now out) at 2 lines (now line) chain node node (now asked) ⌝ }
     ensures { λ r. ⌜ WroteLines (now (out .entry)) (now (out .exit)) at (endLinesOf (now (line .entry)) chain (keyIn (now (asked .entry))) node lines) r ⌝ }
 {
-    let second = write_one(
-        out,
-        at,
-        lines + 2,
-        &line[..node],
-        &line[node..chain],
-        &line[chain..],
-    );
-    write_of_key(
-        out,
-        second,
-        SUPERKEY,
-        lines + 3,
-        &line[..node],
-        &line[node..chain],
-        asked,
-    )
+    let second = write_one(out, at, lines + 2, line, node, chain);
+    write_along(out, second, SUPERKEY, lines + 3, line, node, chain, asked)
 }
 
 // "rule 3: S_s with e · rule 2: {e, H} · rule 8: {e, P_j} · rule 3: K i"
@@ -61,32 +46,8 @@ pub fn write_empty(
     requires { ⌜ StepFits (now out) at 4 lines (now line) chain node spot (now asked) × KeyBody (now cited) ⌝ }
     ensures { λ r. ⌜ WroteLines (now (out .entry)) (now (out .exit)) at (emptyLinesOf (now (line .entry)) chain (keyIn (now (asked .entry))) (keyIn (now (cited .entry))) node spot lines) r ⌝ }
 {
-    let second = write_with_empty(out, at, lines + 2, &line[..node], &line[node..spot], cited);
-    let third = write_pair(
-        out,
-        second,
-        PREFIX_EPSILON,
-        lines + 3,
-        &line[..node],
-        &line[node..spot],
-        &line[spot..],
-    );
-    let fourth = write_pair(
-        out,
-        third,
-        SUBNODES_EPSILON,
-        lines + 4,
-        &line[..node],
-        &line[node..chain],
-        &line[chain..],
-    );
-    write_of_key(
-        out,
-        fourth,
-        SUPERKEY,
-        lines + 5,
-        &line[..node],
-        &line[node..chain],
-        asked,
-    )
+    let second = write_with_empty(out, at, lines + 2, line, node, spot, cited);
+    let third = write_pair(out, second, PREFIX_EPSILON, lines + 3, line, node, spot);
+    let fourth = write_pair(out, third, SUBNODES_EPSILON, lines + 4, line, node, chain);
+    write_along(out, fourth, SUPERKEY, lines + 5, line, node, chain, asked)
 }

@@ -26,9 +26,9 @@ ghost use Rattle.set_writing.specs.Fronts.{inFront};
 ghost use Rattle.theory_derive.specs.Sets.{insert};
 ghost use Rattle.theory_derive.specs.Spots.{holdsEmpty};
 ghost use Rattle.theory_derive.specs.Written.{keyOf, twoLine, oneLine};
-ghost use Rattle.step_writing.specs.Fits.{KeyBody, LineRoom, OfKeyFits, FrontRoom};
+ghost use Rattle.step_writing.specs.Fits.{KeyBody, OfKeyFits};
 ghost use Rattle.step_writing.specs.Lines.{WroteLines};
-ghost use Rattle.step_writing.specs.Singles.{PairIn};
+ghost use Rattle.step_writing.specs.Parts.{between, keyAlong, PartRoom, FrontRoom, SetFits, UnitedBytes};
 
 // "an unused premise field is 65535"
 pub const NO_NUMBER: usize = 65535;
@@ -78,135 +78,183 @@ pub fn write_of_key(
     )
 }
 
-// A line with one key path.
-pub fn write_one(
-    out: &mut [u8],
-    at: usize,
-    first: usize,
-    context: &[u8],
-    target: &[u8],
-    path: &[u8],
-) -> usize
-    requires { ⌜ LineRoom (now out) at (now context) (now target) × (length (now path) ≤ 24) ⌝ }
-    ensures { λ r. ⌜ WroteLines (now (out .entry)) (now (out .exit)) at (oneLine 4 first (keyOf (now (context .entry)) (now (target .entry)) (now (path .entry) ∷ [])) ∷ []) r ⌝ }
-{
-    let mut one = [0u8; 32];
-    let used = put_path(&mut one, 0, path);
-    write_line(
-        out,
-        at,
-        SUBNODES,
-        first,
-        NO_NUMBER,
-        context,
-        target,
-        1,
-        &one[..used],
-    )
-}
-
-// {empty, p}
-fn pair_empty(buffer: &mut [u8], path: &[u8]) -> Set
-    requires { ⌜ (length (now path) ≤ 24) × (128 ≤ length (now buffer)) ⌝ }
-    ensures { λ r. ⌜ PairIn (now (buffer .entry)) (now (buffer .exit)) (r .count) (r .used) (withEmpty (now (path .entry))) ⌝ }
-{
-    let used = put_number(buffer, 0, 0);
-    insert_path(buffer, 1, used, path)
-}
-
-// A line with the set {empty, p}.
-pub fn write_pair(
+// A line whose context and target are read off the asked line: up to `from`, and from there up to `to`.
+pub fn write_part(
     out: &mut [u8],
     at: usize,
     rule: usize,
     first: usize,
-    context: &[u8],
-    target: &[u8],
-    path: &[u8],
+    second: usize,
+    line: &[u8],
+    from: usize,
+    to: usize,
+    many: usize,
+    set: &[u8],
 ) -> usize
-    requires { ⌜ (rule < 256) × LineRoom (now out) at (now context) (now target) × (length (now path) ≤ 24) ⌝ }
-    ensures { λ r. ⌜ WroteLines (now (out .entry)) (now (out .exit)) at (oneLine rule first (keyOf (now (context .entry)) (now (target .entry)) (withEmpty (now (path .entry)))) ∷ []) r ⌝ }
+    requires { ⌜ (rule < 256) × PartRoom (now out) at (now line) from to × SetFits many (now set) ⌝ }
+    ensures { λ r. ⌜ WroteLines (now (out .entry)) (now (out .exit)) at (twoLine rule first second (keyAlong (now (line .entry)) from to (pathsOf many (now (set .entry)))) ∷ []) r ⌝ }
 {
-    let mut buffer = [0u8; UNITED_BYTES];
-    let set = pair_empty(&mut buffer, path);
-    let many = set.count;
-    let used = set.used;
     write_line(
         out,
         at,
         rule,
         first,
+        second,
+        &line[..from],
+        &line[from..to],
+        many,
+        set,
+    )
+}
+
+// Such a line with the key paths of a key.
+pub fn write_along(
+    out: &mut [u8],
+    at: usize,
+    rule: usize,
+    first: usize,
+    line: &[u8],
+    from: usize,
+    to: usize,
+    body: &[u8],
+) -> usize
+    requires { ⌜ (rule < 256) × PartRoom (now out) at (now line) from to × KeyBody (now body) ⌝ }
+    ensures { λ r. ⌜ WroteLines (now (out .entry)) (now (out .exit)) at (oneLine rule first (keyAlong (now (line .entry)) from to (keyIn (now (body .entry)) .paths)) ∷ []) r ⌝ }
+{
+    let many = count(body);
+    write_part(
+        out,
+        at,
+        rule,
+        first,
         NO_NUMBER,
-        context,
-        target,
+        line,
+        from,
+        to,
+        many,
+        paths(body),
+    )
+}
+
+// "rule 4": the rest of the line is the one key path.
+pub fn write_one(
+    out: &mut [u8],
+    at: usize,
+    first: usize,
+    line: &[u8],
+    from: usize,
+    to: usize,
+) -> usize
+    requires { ⌜ PartRoom (now out) at (now line) from to ⌝ }
+    ensures { λ r. ⌜ WroteLines (now (out .entry)) (now (out .exit)) at (oneLine 4 first (keyAlong (now (line .entry)) from to (between to (length (now (line .entry))) (now (line .entry)) ∷ [])) ∷ []) r ⌝ }
+{
+    let mut one = [0u8; 32];
+    let used = put_path(&mut one, 0, &line[to..]);
+    write_part(
+        out,
+        at,
+        SUBNODES,
+        first,
+        NO_NUMBER,
+        line,
+        from,
+        to,
+        1,
+        &one[..used],
+    )
+}
+
+// A line with the set {empty, the rest of the line}.
+pub fn write_pair(
+    out: &mut [u8],
+    at: usize,
+    rule: usize,
+    first: usize,
+    line: &[u8],
+    from: usize,
+    to: usize,
+) -> usize
+    requires { ⌜ (rule < 256) × PartRoom (now out) at (now line) from to ⌝ }
+    ensures { λ r. ⌜ WroteLines (now (out .entry)) (now (out .exit)) at (oneLine rule first (keyAlong (now (line .entry)) from to (withEmpty (between to (length (now (line .entry))) (now (line .entry))))) ∷ []) r ⌝ }
+{
+    let mut buffer = [0u8; UNITED_BYTES];
+    let behind = put_number(&mut buffer, 0, 0);
+    let set = insert_path(&mut buffer, 1, behind, &line[to..]);
+    let many = set.count;
+    let used = set.used;
+    write_part(
+        out,
+        at,
+        rule,
+        first,
+        NO_NUMBER,
+        line,
+        from,
+        to,
         many,
         &buffer[..used],
     )
 }
 
-// "S_s with e"
-fn key_with_empty(buffer: &mut [u8], body: &[u8]) -> Set
-    requires { ⌜ KeyBody (now body) × (128 ≤ length (now buffer)) ⌝ }
-    ensures { λ r. ⌜ PairIn (now (buffer .entry)) (now (buffer .exit)) (r .count) (r .used) (insert [] (keyIn (now (body .entry)) .paths)) ⌝ }
-{
-    let set = paths(body);
-    let used = put(buffer, 0, set);
-    insert_path(buffer, count(body), used, &set[..0])
-}
-
-// A line with the key paths of a key and the empty path.
+// "rule 3: S_s with e"
 pub fn write_with_empty(
     out: &mut [u8],
     at: usize,
     first: usize,
-    context: &[u8],
-    target: &[u8],
+    line: &[u8],
+    from: usize,
+    to: usize,
     body: &[u8],
 ) -> usize
-    requires { ⌜ LineRoom (now out) at (now context) (now target) × KeyBody (now body) ⌝ }
-    ensures { λ r. ⌜ WroteLines (now (out .entry)) (now (out .exit)) at (oneLine 3 first (keyOf (now (context .entry)) (now (target .entry)) (insert [] (keyIn (now (body .entry)) .paths))) ∷ []) r ⌝ }
+    requires { ⌜ PartRoom (now out) at (now line) from to × KeyBody (now body) ⌝ }
+    ensures { λ r. ⌜ WroteLines (now (out .entry)) (now (out .exit)) at (oneLine 3 first (keyAlong (now (line .entry)) from to (insert [] (keyIn (now (body .entry)) .paths))) ∷ []) r ⌝ }
 {
     let mut buffer = [0u8; UNITED_BYTES];
-    let set = key_with_empty(&mut buffer, body);
+    let bytes = paths(body);
+    let behind = put(&mut buffer, 0, bytes);
+    let set = insert_path(&mut buffer, count(body), behind, &bytes[..0]);
     let many = set.count;
     let used = set.used;
-    write_line(
+    write_part(
         out,
         at,
         SUPERKEY,
         first,
         NO_NUMBER,
-        context,
-        target,
+        line,
+        from,
+        to,
         many,
         &buffer[..used],
     )
 }
 
-// A line with a path in front of each key path.
+// "rule 3: (A', (norm (C++T)[i..k], F.U))": F, the line from `to` up to `chain`, in front of each key path.
 pub fn write_fronted(
     out: &mut [u8],
     at: usize,
     first: usize,
-    context: &[u8],
-    target: &[u8],
-    front: &[u8],
+    line: &[u8],
+    from: usize,
+    to: usize,
+    chain: usize,
     many: usize,
     set: &[u8],
 ) -> usize
-    requires { ⌜ LineRoom (now out) at (now context) (now target) × FrontRoom (now front) many (now set) ⌝ }
-    ensures { λ r. ⌜ WroteLines (now (out .entry)) (now (out .exit)) at (oneLine 3 first (keyOf (now (context .entry)) (now (target .entry)) (inFront (now (front .entry)) (pathsOf many (now (set .entry))))) ∷ []) r ⌝ }
+    requires { ⌜ PartRoom (now out) at (now line) from to × FrontRoom (now line) to chain × UnitedBytes many (now set) ⌝ }
+    ensures { λ r. ⌜ WroteLines (now (out .entry)) (now (out .exit)) at (oneLine 3 first (keyAlong (now (line .entry)) from to (inFront (between to chain (now (line .entry))) (pathsOf many (now (set .entry))))) ∷ []) r ⌝ }
 {
     let mut buffer = [0u8; SET_BYTES];
-    let used = put_front(&mut buffer, front, many, set);
-    write_line(
+    let used = put_front(&mut buffer, &line[to..chain], many, set);
+    write_part(
         out,
         at,
         SUPERKEY,
         first,
         NO_NUMBER,
-        context,
-        target,
+        line,
+        from,
+        to,
         many,
         &buffer[..used],
     )

@@ -1,5 +1,5 @@
 use Rattle.step_writing.specs.StepLines.{unite-fits, united-yes, united-no}
-use Rattle.step_writing.specs.Fits.{body-set}
+use Rattle.step_writing.specs.Fits.{body-put}
 use native.Mathlib.Omega.{arith}
 use borrow.Author.Needs.{needs}
 use Rattle.step_writing.proofs.chain.united_set.Statement.{statement}
@@ -34,7 +34,7 @@ paths-requires-2 c κs = search needs
 
 -- src/chain.rt:53:9
 unite-beyond-requires : tie.Need-unite-beyond-requires
-unite-beyond-requires c κs = unite-fits (c .before .before .before .before .before .before .before .before .before .before .pre .0) (c .before .before .before .before .before .before .before .before .before .before .pre .1) (c .before .before .before .before .before .paths .ensures) (c .before .before .before .before .before .before .count .ensures .0) (c .paths2 .ensures) (c .before .count2 .ensures .0) (c .before .before .before .before .before .before .before .before .before .before .pre .2)
+unite-beyond-requires c κs = search (unite-fits)
 
 -- src/chain.rt:53:9
 same-length : tie.Need-same-length
@@ -42,11 +42,11 @@ same-length c = search needs
 
 -- src/chain.rt:53:9
 returns : tie.Need-returns
-returns c = united-yes (c .before .before .before .before .before .before .before .before .before .before .before .before .before .pre .0) (c .before .before .before .before .before .before .before .before .before .before .before .before .before .pre .1) (c .before .before .before .before .before .before .before .before .paths .ensures) (c .before .before .before .before .before .before .before .before .before .count .ensures .0) _ (c .before .before .before .paths2 .ensures) (c .before .before .before .before .count2 .ensures .0) (c .before .before .before .before .before .before .before .holds-empty .ensures) (c .before .before .before .before .before .before .if1 .taken) (c .before .before .unite-beyond .ensures)
+returns c = search (united-yes)
 
 -- src/chain.rt:55:9
 put-requires : tie.Need-put-requires
-put-requires c κs = let s = body-set (c .before .before .before .before .before .before .before .before .pre .0) (c .before .before .before .paths .ensures) (c .before .before .before .before .count .ensures .0) in let l = s .short in let b = c .before .before .before .before .before .before .before .before .pre .2 in omega arith
+put-requires c κs = search (body-put)
 
 -- src/chain.rt:46:1
 same-length-2 : tie.Need-same-length-2
@@ -54,7 +54,7 @@ same-length-2 c = search needs
 
 -- src/chain.rt:46:1
 returns-2 : tie.Need-returns-2
-returns-2 c = united-no (c .before .before .before .before .before .before .before .before .before .before .before .pre .0) (c .before .before .before .before .before .before .before .before .before .before .before .pre .1) (c .before .before .before .before .before .before .paths .ensures) (c .before .before .before .before .before .before .before .count .ensures .0) _ (c .before .before .before .before .before .holds-empty .ensures) (c .before .before .before .before .if1 .left) (c .before .before .put .ensures)
+returns-2 c = search (united-no)
 
 pub united-set-spec : {M : Type 1} → statement M
 united-set-spec =

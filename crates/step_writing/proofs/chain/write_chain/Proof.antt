@@ -1,7 +1,8 @@
 use Rattle.step_writing.specs.StepLines.{chain-united}
-use Rattle.step_writing.specs.StepFits.{united-bytes}
+use Rattle.step_writing.specs.Parts.{united-bytes}
 use lib.Seq.{length-take-le}
 use mathlib.Core.Path.{sym}
+use native.Mathlib.Omega.{arith}
 use borrow.Author.Needs.{needs}
 use Rattle.step_writing.proofs.chain.write_chain.Statement.{statement}
 use Rattle.step_writing.proofs.chain.write_chain.Tie as tie
@@ -28,11 +29,11 @@ array-share-prefix-buffer c = search needs
 
 -- src/chain.rt:94:77
 slice-aggregate-write-chain-lines : tie.Need-slice-aggregate-write-chain-lines
-slice-aggregate-write-chain-lines c = sym (length-take-le _ _ (c .before .before .before .united-set .ensures .holds .within))
+slice-aggregate-write-chain-lines c = sym (length-take-le _ _ (omega arith))
 
 -- src/chain.rt:94:5
 write-chain-lines-requires : tie.Need-write-chain-lines-requires
-write-chain-lines-requires c κs = (c .before .before .before .before .before .before .before .before .before .pre .0, c .before .before .before .before .before .before .before .before .before .pre .1, united-bytes (c .before .before .before .united-set .ensures))
+write-chain-lines-requires c κs = search (united-bytes)
 
 -- src/chain.rt:86:1
 same-length : tie.Need-same-length
@@ -40,7 +41,7 @@ same-length c = search needs
 
 -- src/chain.rt:86:1
 returns : tie.Need-returns
-returns c = chain-united _ _ _ _ _ _ (c .before .before .before .before .before .before .united-set .ensures) (c .before .before .write-chain-lines .ensures)
+returns c = search (chain-united)
 
 pub write-chain-spec : {M : Type 1} → statement M
 write-chain-spec =

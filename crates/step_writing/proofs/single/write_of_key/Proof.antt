@@ -1,5 +1,4 @@
 use Rattle.step_writing.specs.Singles.{of-key-fits, of-key-wrote}
-use native.Mathlib.Omega.{arith}
 use borrow.Author.Needs.{needs}
 use Rattle.step_writing.proofs.single.write_of_key.Statement.{statement}
 use Rattle.step_writing.proofs.single.write_of_key.Tie as tie
@@ -9,17 +8,17 @@ use Rattle.line_writing.proofs.write_line.Reads as write-line-reads
 use Rattle.shapes.proofs.keys.count.Reads as count-reads
 use Rattle.shapes.proofs.keys.paths.Reads as paths-reads
 
--- src/single.rt:59:9
+-- src/single.rt:67:9
 count-requires : tie.Need-count-requires
-count-requires c κs = c .before .before .before .before .pre .key .reads
+count-requires c κs = search needs
 
--- src/single.rt:60:72
+-- src/single.rt:77:9
 paths-requires : tie.Need-paths-requires
-paths-requires c κs = c .before .before .before .before .before .before .pre .key .reads
+paths-requires c κs = search needs
 
--- src/single.rt:60:5
+-- src/single.rt:68:5
 write-line-requires : tie.Need-write-line-requires
-write-line-requires c κs = of-key-fits (c .before .before .before .before .before .before .before .pre) (c .paths .ensures) (c .before .before .count .ensures .0)
+write-line-requires c κs = search (of-key-fits)
 
 -- src/single.rt:55:1
 same-length : tie.Need-same-length
@@ -27,7 +26,7 @@ same-length c = search needs
 
 -- src/single.rt:55:1
 returns : tie.Need-returns
-returns c = of-key-wrote _ _ _ _ (c .before .before .before .before .before .before .before .before .before .before .pre .key) (c .before .before .before .paths .ensures) (c .before .before .before .before .before .count .ensures .0) (c .before .before .write-line .ensures)
+returns c = search (of-key-wrote)
 
 pub write-of-key-spec : {M : Type 1} → statement M
 write-of-key-spec =

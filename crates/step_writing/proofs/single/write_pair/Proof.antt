@@ -1,4 +1,5 @@
-use Rattle.step_writing.specs.Singles.{set-fits, set-wrote}
+use Rattle.step_writing.specs.Singles.{pair-fits, pair-in}
+use Rattle.step_writing.specs.Parts.{small-fits, of-small}
 use lib.Seq.{length-take-le}
 use mathlib.Core.Path.{sym}
 use native.Mathlib.Omega.{arith}
@@ -7,45 +8,81 @@ use Rattle.step_writing.proofs.single.write_pair.Statement.{statement}
 use Rattle.step_writing.proofs.single.write_pair.Tie as tie
 use Rattle.step_writing.proofs.single.write_pair.Reads as reads
 use Rattle.step_writing.proofs.single.write_pair.Lts as lts
-use Rattle.line_writing.proofs.write_line.Reads as write-line-reads
-use Rattle.step_writing.proofs.single.pair_empty.Reads as pair-empty-reads
+use Rattle.line_writing.proofs.put_number.Reads as put-number-reads
+use Rattle.set_writing.proofs.insert_path.Reads as insert-path-reads
+use Rattle.step_writing.proofs.single.write_part.Reads as write-part-reads
 
--- src/single.rt:88:26
-slice-aggregate-pair-empty : tie.Need-slice-aggregate-pair-empty
-slice-aggregate-pair-empty c = search needs
+-- src/single.rt:181:29
+slice-aggregate-put-number : tie.Need-slice-aggregate-put-number
+slice-aggregate-put-number c = search needs
 
--- src/single.rt:88:9
-pair-empty-requires : tie.Need-pair-empty-requires
-pair-empty-requires c κs = search needs
+-- src/single.rt:181:9
+put-number-requires : tie.Need-put-number-requires
+put-number-requires c κs = search needs
 
--- src/single.rt:91:72
+-- src/single.rt:182:27
+slice-aggregate-insert-path : tie.Need-slice-aggregate-insert-path
+slice-aggregate-insert-path c = search needs
+
+-- src/single.rt:182:51
+sub-insert-path : tie.Need-sub-insert-path
+sub-insert-path c = search needs
+
+-- src/single.rt:182:51
+part-insert-path-start : tie.Need-part-insert-path-start
+part-insert-path-start c = search needs
+
+-- src/single.rt:182:51
+part-insert-path-end : tie.Need-part-insert-path-end
+part-insert-path-end c = search needs
+
+-- src/single.rt:182:9
+insert-path-requires : tie.Need-insert-path-requires
+insert-path-requires c κs = search (needs, pair-fits)
+
+-- src/single.rt:195:9
 array-share-prefix-buffer : tie.Need-array-share-prefix-buffer
 array-share-prefix-buffer c = search needs
 
--- src/single.rt:91:72
-slice-aggregate-write-line : tie.Need-slice-aggregate-write-line
-slice-aggregate-write-line c = sym (length-take-le _ _ (c .before .before .before .pair-empty .ensures .holds .within))
+-- src/single.rt:195:9
+slice-aggregate-write-part : tie.Need-slice-aggregate-write-part
+slice-aggregate-write-part c = sym (length-take-le _ _ (omega arith))
 
--- src/single.rt:91:5
-write-line-requires : tie.Need-write-line-requires
-write-line-requires c κs = set-fits (c .before .before .before .before .before .before .before .before .before .pre .1) (c .before .before .before .before .before .before .before .before .before .pre .0) (c .before .before .before .pair-empty .ensures .holds) (let f = c .before .before .before .pair-empty .ensures .few in omega arith) (let s = c .before .before .before .pair-empty .ensures .short in omega arith)
+-- src/single.rt:185:5
+write-part-requires : tie.Need-write-part-requires
+write-part-requires c κs =
+    let made = c .before .before .before in
+    let number = made .before .before .before .before in
+    let start = number .before .before .before .before in
+    let set = pair-in (start .pre .1) (number .put-number .ensures) (made .insert-path .ensures) in
+    (start .pre .0, start .pre .1, small-fits set)
 
--- src/single.rt:83:1
+-- src/single.rt:168:1
 same-length : tie.Need-same-length
 same-length c = search needs
 
--- src/single.rt:83:1
+-- src/single.rt:168:1
 returns : tie.Need-returns
-returns c = set-wrote _ _ _ _ (c .before .before .before .before .before .before .pair-empty .ensures .holds) (c .before .before .write-line .ensures)
+returns c =
+    let made = c .before .before .before .before .before .before in
+    let number = made .before .before .before .before in
+    let start = number .before .before .before .before in
+    let set = pair-in (start .pre .1) (number .put-number .ensures) (made .insert-path .ensures) in
+    of-small _ _ _ _ set (c .before .before .write-part .ensures)
 
 pub write-pair-spec : {M : Type 1} → statement M
 write-pair-spec =
     tie.close
     (tie.spec
-    slice-aggregate-pair-empty
-    pair-empty-requires
+    slice-aggregate-put-number
+    put-number-requires
+    slice-aggregate-insert-path
+    sub-insert-path
+    part-insert-path-start
+    part-insert-path-end
+    insert-path-requires
     array-share-prefix-buffer
-    slice-aggregate-write-line
-    write-line-requires
+    slice-aggregate-write-part
+    write-part-requires
     same-length
     returns)

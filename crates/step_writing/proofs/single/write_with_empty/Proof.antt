@@ -1,4 +1,6 @@
-use Rattle.step_writing.specs.Singles.{set-fits, set-wrote}
+use Rattle.step_writing.specs.Singles.{with-fits, with-in}
+use Rattle.step_writing.specs.Parts.{small-fits, of-small}
+use Rattle.step_writing.specs.Fits.{body-put}
 use lib.Seq.{length-take-le}
 use mathlib.Core.Path.{sym}
 use native.Mathlib.Omega.{arith}
@@ -7,45 +9,85 @@ use Rattle.step_writing.proofs.single.write_with_empty.Statement.{state
 use Rattle.step_writing.proofs.single.write_with_empty.Tie as tie
 use Rattle.step_writing.proofs.single.write_with_empty.Reads as reads
 use Rattle.step_writing.proofs.single.write_with_empty.Lts as lts
-use Rattle.line_writing.proofs.write_line.Reads as write-line-reads
-use Rattle.step_writing.proofs.single.key_with_empty.Reads as key-with-empty-reads
+use Rattle.set_writing.proofs.insert_path.Reads as insert-path-reads
+use Rattle.shapes.proofs.keys.count.Reads as count-reads
+use Rattle.shapes.proofs.keys.paths.Reads as paths-reads
+use Rattle.step_writing.proofs.single.write_part.Reads as write-part-reads
+use Rattle.writing.proofs.put.Reads as put-reads
 
--- src/single.rt:110:30
-slice-aggregate-key-with-empty : tie.Need-slice-aggregate-key-with-empty
-slice-aggregate-key-with-empty c = search needs
+-- src/single.rt:213:9
+paths-requires : tie.Need-paths-requires
+paths-requires c κs = search needs
 
--- src/single.rt:110:9
-key-with-empty-requires : tie.Need-key-with-empty-requires
-key-with-empty-requires c κs = search needs
+-- src/single.rt:214:22
+slice-aggregate-put : tie.Need-slice-aggregate-put
+slice-aggregate-put c = search needs
 
--- src/single.rt:113:76
+-- src/single.rt:214:9
+put-requires : tie.Need-put-requires
+put-requires c κs = search (needs, body-put)
+
+-- src/single.rt:215:27
+slice-aggregate-insert-path : tie.Need-slice-aggregate-insert-path
+slice-aggregate-insert-path c = search needs
+
+-- src/single.rt:215:40
+count-requires : tie.Need-count-requires
+count-requires c κs = search needs
+
+-- src/single.rt:215:61
+slice-aggregate-insert-path-2 : tie.Need-slice-aggregate-insert-path-2
+slice-aggregate-insert-path-2 c = search needs
+
+-- src/single.rt:215:9
+insert-path-requires : tie.Need-insert-path-requires
+insert-path-requires c κs = search (needs, with-fits)
+
+-- src/single.rt:228:9
 array-share-prefix-buffer : tie.Need-array-share-prefix-buffer
 array-share-prefix-buffer c = search needs
 
--- src/single.rt:113:76
-slice-aggregate-write-line : tie.Need-slice-aggregate-write-line
-slice-aggregate-write-line c = sym (length-take-le _ _ (c .before .before .before .key-with-empty .ensures .holds .within))
+-- src/single.rt:228:9
+slice-aggregate-write-part : tie.Need-slice-aggregate-write-part
+slice-aggregate-write-part c = sym (length-take-le _ _ (omega arith))
 
--- src/single.rt:113:5
-write-line-requires : tie.Need-write-line-requires
-write-line-requires c κs = set-fits (c .before .before .before .before .before .before .before .before .before .pre .0) (omega arith) (c .before .before .before .key-with-empty .ensures .holds) (let f = c .before .before .before .key-with-empty .ensures .few in omega arith) (let s = c .before .before .before .key-with-empty .ensures .short in omega arith)
+-- src/single.rt:218:5
+write-part-requires : tie.Need-write-part-requires
+write-part-requires c κs =
+    let made = c .before .before .before in
+    let counted = made .before .before in
+    let copied = counted .before .before .before in
+    let start = copied .before .before .before .before .before .before in
+    let set = with-in (start .pre .1) (copied .before .before .paths .ensures) (counted .count .ensures .0) (copied .put .ensures) (made .insert-path .ensures) in
+    (omega arith, start .pre .0, small-fits set)
 
--- src/single.rt:105:1
+-- src/single.rt:200:1
 same-length : tie.Need-same-length
 same-length c = search needs
 
--- src/single.rt:105:1
+-- src/single.rt:200:1
 returns : tie.Need-returns
-returns c = set-wrote _ _ _ _ (c .before .before .before .before .before .before .key-with-empty .ensures .holds) (c .before .before .write-line .ensures)
+returns c =
+    let made = c .before .before .before .before .before .before in
+    let counted = made .before .before in
+    let copied = counted .before .before .before in
+    let start = copied .before .before .before .before .before .before in
+    let set = with-in (start .pre .1) (copied .before .before .paths .ensures) (counted .count .ensures .0) (copied .put .ensures) (made .insert-path .ensures) in
+    of-small _ _ _ _ set (c .before .before .write-part .ensures)
 
 pub write-with-empty-spec : {M : Type 1} → statement M
 write-with-empty-spec =
     tie.close
     (tie.spec
-    slice-aggregate-key-with-empty
-    key-with-empty-requires
+    paths-requires
+    slice-aggregate-put
+    put-requires
+    slice-aggregate-insert-path
+    count-requires
+    slice-aggregate-insert-path-2
+    insert-path-requires
     array-share-prefix-buffer
-    slice-aggregate-write-line
-    write-line-requires
+    slice-aggregate-write-part
+    write-part-requires
     same-length
     returns)
