@@ -7,7 +7,7 @@ use Rattle.meaning.specs.Lists.{Each}
 use Rattle.meaning.specs.Lists.Each.{end, also}
 use Rattle.meaning.specs.Paths.{Class, join}
 use Rattle.meaning.specs.Trees.{Table, IsTree, Reached, Equal}
-use Rattle.meaning.specs.Keys.{Key, EqualPair, Keeps}
+use Rattle.meaning.specs.Keys.{Breaks, Key, EqualPair, Keeps}
 use Rattle.meaning.specs.Rules.{Epsilon, PrefixEpsilon, Superkey, Subnodes, ContextTarget, withEmpty, SubnodesEpsilon, Interaction}
 use Rattle.theory_paths.specs.Bools.{Each-at, Each-of}
 use Rattle.theory_paths.specs.Words.{Word}
@@ -43,21 +43,26 @@ module _ (κ : ℕ → Class) (t : Table) where
   unfolding Epsilon Keeps
   epsilon-kept k e w = w .different (sym (reached-empty (by-same e (w .first))) ∙ reached-empty (by-same e (w .second)))
 
+  -- a witness against one key is a witness against another of the same context and target, with pairs for its paths
+  other-set : (p k : Key) → k .context ≡ p .context → k .target ≡ p .target → (w : Breaks κ t k) → Each (EqualPair κ t (w .a) (w .b)) (p .paths)
+      → Breaks κ t p
+  other-set p k c e w pairs =
+      record {
+        q = w .q;
+        a = w .a;
+        b = w .b;
+        context = by-same c (w .context);
+        first = by-same e (w .first);
+        second = by-same e (w .second);
+        different = w .different;
+        pairs = pairs;
+      }
+
   -- 3 superkey: drop pairs
   pub superkey-kept : (p k : Key) → Superkey p k → Keeps κ t p → Keeps κ t k
   unfolding Keeps
   superkey-kept p k rule kept w =
-      kept
-      (record {
-        q = w .q;
-        a = w .a;
-        b = w .b;
-        context = by-same (rule .context) (w .context);
-        first = by-same (rule .target) (w .first);
-        second = by-same (rule .target) (w .second);
-        different = w .different;
-        pairs = Each-of (p .paths) (λ s m. Each-at (w .pairs) s (Each-at (rule .includes) s m));
-      })
+      kept (other-set p k (rule .context) (rule .target) w (Each-of (p .paths) (λ s m. Each-at (w .pairs) s (Each-at (rule .includes) s m))))
 
   -- 5 context path, 6 target path: the new path, read as a run, is a word of the old one
   pub context-kept : (p k : Key) → Word (p .context) (k .context) → k .target ≡ p .target → k .paths ≡ p .paths → Keeps κ t p → Keeps κ t k
@@ -196,18 +201,10 @@ module _ (κ : ℕ → Class) (t : Table) (tree : IsTree κ t) where
   prefix-epsilon-kept p k rule kept w =
       let e = targets-equal (Each-at (w .pairs) [] (rule .newEmpty)) in
       kept
-      (record {
-        q = w .q;
-        a = w .a;
-        b = w .b;
-        context = by-same (rule .context) (w .context);
-        first = by-same (rule .target) (w .first);
-        second = by-same (rule .target) (w .second);
-        different = w .different;
-        pairs = Each-of (p .paths) (λ s m.
-            let long = Each-at (rule .begins) s m in
-            equal-pair e (reached-append-split s (long .rest) (Each-at (w .pairs) (s ++ long .rest) (long .among) .fromFirst) .above));
-      })
+      (other-set κ t p k (rule .context) (rule .target) w
+      (Each-of (p .paths) (λ s m.
+      let long = Each-at (rule .begins) s m in
+      equal-pair e (reached-append-split s (long .rest) (Each-at (w .pairs) (s ++ long .rest) (long .among) .fromFirst) .above))))
 
   -- 8 subnodes-epsilon: as 4, but the other nodes are found by law 3
   pub subnodes-epsilon-kept : (p k : Key) → SubnodesEpsilon p k → Keeps κ t p → Keeps κ t k
