@@ -1,14 +1,18 @@
 //! The product's operations, through the static library of crate bench_exports. A slice crosses as a pointer and a length.
 use crate::cases::{Case, Operation, Words};
 
+type Bytes = *const u8;
+type Room = *mut u8;
+type Told = *mut Words;
+
 extern "C" {
-    fn bench_rewrite(profile: *const u8, bytes: usize, answer: *mut u8, room: usize, told: *mut Words);
-    fn bench_include(profile: *const u8, bytes: usize, p: *const u8, symbols: usize, q: *const u8, others: usize, told: *mut Words);
-    fn bench_keep(profile: *const u8, bytes: usize, question: *const u8, asked: usize, tree: *const u8, nodes: usize, told: *mut Words);
-    fn bench_check_proof(profile: *const u8, bytes: usize, question: *const u8, asked: usize, proof: *const u8, lines: usize, told: *mut Words);
-    fn bench_check_counterexample(profile: *const u8, bytes: usize, question: *const u8, asked: usize, tree: *const u8, nodes: usize, told: *mut Words);
-    fn bench_list_block(profile: *const u8, bytes: usize, tree: *const u8, nodes: usize, block: usize, answer: *mut u8, room: usize, told: *mut Words);
-    fn bench_decide(profile: *const u8, bytes: usize, question: *const u8, asked: usize, answer: *mut u8, room: usize, told: *mut Words);
+    fn bench_rewrite(profile: Bytes, _: usize, answer: Room, _: usize, told: Told);
+    fn bench_include(profile: Bytes, _: usize, path: Bytes, _: usize, other: Bytes, _: usize, told: Told);
+    fn bench_keep(profile: Bytes, _: usize, question: Bytes, _: usize, tree: Bytes, _: usize, told: Told);
+    fn bench_check_proof(profile: Bytes, _: usize, question: Bytes, _: usize, proof: Bytes, _: usize, told: Told);
+    fn bench_check_counterexample(profile: Bytes, _: usize, question: Bytes, _: usize, tree: Bytes, _: usize, told: Told);
+    fn bench_list_block(profile: Bytes, _: usize, tree: Bytes, _: usize, block: usize, answer: Room, _: usize, told: Told);
+    fn bench_decide(profile: Bytes, _: usize, question: Bytes, _: usize, answer: Room, _: usize, told: Told);
 }
 
 /// The words of the answer; bytes used stand at the front of the answer buffer.

@@ -9,7 +9,7 @@ cd "$root"
 work=target/measure
 mkdir -p "$work"
 page=4096
-xml_runs=5
+xml_runs=10
 
 fail() {
     echo "measure: $*" >&2

@@ -16,10 +16,12 @@ const DEEP_TARGET: &str = "(e,(_*.run._*.run._*.run._*.run,{e}))";
 const DEEP_CONTEXT: &str = "(_*.run._*.run._*.run._*.run,(_*,{e}))";
 const NO_TARGET: &str = "(_*,(_*.port,{e}))";
 const IN_A_PORT: &str = "(port,(frame,{@seq}))";
+const BELOW_A_RUN: &str = "(run.port,(frame,{@seq}))";
 const IN_THE_TREE: &str = "(e,(port.frame,{@seq}))";
 const BLOCKS: [usize; 2] = [0, 4];
-/// The search of today tries a context of every pair at every height, which a broom of 4,096 nodes would take hours to show.
-const BROOM_NODES: [usize; 2] = [128, 64];
+/// The sizes of `SLOW_CASES`. Today's search tries the contexts of each pair at each height, and a pair of targets again for each pair of equal
+/// nodes below them: on 4,096 nodes that would take hours.
+const SLOW_NODES: [usize; 2] = [128, 64];
 
 fn segment_profile() -> Vec<u8> {
     let keys = segment_keys();
@@ -67,8 +69,12 @@ const TREE_CASES: [TreeCase; 10] = [
     ("star, {@id,@seq}", EQUAL_AND_DIFFERENT, dressed_star, "kept"),
 ];
 
-/// The tree is a piece of equal, deep nodes, none of which is a target.
-const BROOM: TreeCase = ("broom, {e}", NO_TARGET, broom, "kept");
+const SLOW_CASES: [TreeCase; 2] = [
+    // There is no port.
+    ("broom, {e}", NO_TARGET, broom, "kept"),
+    // No two @seq are equal.
+    ("two fans, {@id,@seq}", EQUAL_AND_DIFFERENT, fans, "kept"),
+];
 
 fn keep((name, key, tree, wanted): TreeCase, nodes: usize) -> Case {
     let tree = tree(nodes);
@@ -77,8 +83,9 @@ fn keep((name, key, tree, wanted): TreeCase, nodes: usize) -> Case {
 }
 
 fn tree_tests() -> Vec<Case> {
-    let of_both_sizes = TREE_CASES.into_iter().flat_map(|case| [TREE_NODES, FEW_NODES].map(|nodes| keep(case, nodes)));
-    of_both_sizes.chain(BROOM_NODES.map(|nodes| keep(BROOM, nodes))).collect()
+    let of_sizes = |sizes: [usize; 2]| move |case| sizes.map(|nodes| keep(case, nodes));
+    let slow = SLOW_CASES.into_iter().flat_map(of_sizes(SLOW_NODES));
+    TREE_CASES.into_iter().flat_map(of_sizes([TREE_NODES, FEW_NODES])).chain(slow).collect()
 }
 
 /// Not timed: trees and keys that make the recursions go deepest. The ends of the forked chain are equal, and the root reaches both.
@@ -124,12 +131,19 @@ fn proofs() -> Vec<Case> {
     ]
 }
 
+/// The segment's keys hold for a port wherever it stands, and tell frames apart by @seq in one port alone.
+fn decisions_of_the_segment() -> Vec<Case> {
+    let decide = |asked, wanted| {
+        Case::new(Operation::Decide, format!("64 keys of the segment, {}", asked), [segment_profile(), question(asked), vec![]], wanted)
+    };
+    vec![decide(BELOW_A_RUN, "implied"), decide(IN_THE_TREE, "not implied")]
+}
+
 fn decisions() -> Vec<Case> {
-    let mut cases = Vec::new();
-    for keys in [1, 8, PROFILE_KEYS] {
+    let mut cases = decisions_of_the_segment();
+    for (keys, input) in [(1, "1 key, 1 step"), (8, "8 keys, 8 steps"), (PROFILE_KEYS, "64 keys, 8 steps, 56 keys idle")] {
         for (implied, wanted) in [(true, "implied"), (false, "not implied")] {
             let (profile, question) = ladder(keys, implied);
-            let input = format!("{} {}", keys, if keys == 1 { "key" } else { "keys" });
             cases.push(Case::new(Operation::Decide, input, [profile, question, vec![]], wanted));
         }
     }

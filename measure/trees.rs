@@ -84,6 +84,22 @@ pub fn broom(nodes: usize) -> Table {
     table
 }
 
+/// Two elements with many equal @id and as many @seq, no two of them equal: one pair of elements, and very many pairs of attributes.
+pub fn fans(nodes: usize) -> Table {
+    let mut table = Table::new();
+    for _ in 0..2 {
+        let element = table.element(0, PORT);
+        for _ in 0..(nodes - 3) / 4 {
+            table.add(element, ID, 1);
+        }
+        for _ in 0..(nodes - 3) / 4 {
+            let different = table.nodes.len();
+            table.add(element, SEQ, different);
+        }
+    }
+    table
+}
+
 pub fn dressed_chain(nodes: usize) -> Table {
     let mut table = Table::new();
     let mut last = 0;
