@@ -294,8 +294,9 @@ fn run(case: &Case, nodes: usize, program: &str, folder: &Path) -> f64 {
 
 fn main() {
     let words: Vec<String> = std::env::args().collect();
-    let [_, program, folder] = &words[..] else { panic!("usage: tree_cost RUN FOLDER") };
-    let folder = Path::new(folder);
+    assert_eq!(words.len(), 3, "usage: tree_cost RUN FOLDER");
+    let program = &words[1];
+    let folder = Path::new(&words[2]);
     println!("{:<34} {:>9} {:>9} {:>6}", "seconds for nodes", FEW_NODES, TREE_NODES, "ratio");
     for case in cases() {
         let few = run(&case, FEW_NODES, program, folder);

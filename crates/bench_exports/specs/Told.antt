@@ -1,0 +1,48 @@
+-- What the four words of each export say: an answer that meets the operation's definition.
+use Prim.Native.Nat.{ℕ}
+use mathlib.Core.Path.{_≡_}
+use mathlib.Core.List.{List}
+use Rattle.meaning.specs.Operations.{Rewrites, Includes, TestsTree, ChecksProof, ChecksCounterexample, Lists, Decides}
+use Rattle.answers.specs.Cases.{rewritingAnswer, inclusionAnswer, keepingAnswer, checkingAnswer, listingAnswer, decidingAnswer}
+use Rattle.answers.specs.declared.Rewriting.{Rewriting}
+use Rattle.answers.specs.declared.Inclusion.{Inclusion}
+use Rattle.answers.specs.declared.Keeping.{Keeping}
+use Rattle.answers.specs.declared.Checking.{Checking}
+use Rattle.answers.specs.declared.Listing.{Listing}
+use Rattle.answers.specs.declared.Deciding.{Deciding}
+use Rattle.bench_exports.specs.Words.{rewritingWords, inclusionWords, keepingWords, checkingWords, listingWords, decidingWords}
+
+pub record ToldRewriting (profile : List ℕ) (before : List ℕ) (after : List ℕ) (told : List ℕ) : Type 0 where
+  pub answer : Rewriting
+  pub words : told ≡ rewritingWords answer
+  pub met : Rewrites profile before (rewritingAnswer answer after)
+
+pub record ToldInclusion (profile : List ℕ) (path : List ℕ) (other : List ℕ) (told : List ℕ) : Type 0 where
+  pub answer : Inclusion
+  pub words : told ≡ inclusionWords answer
+  pub met : Includes profile path other (inclusionAnswer answer)
+
+pub record ToldKeeping (profile : List ℕ) (question : List ℕ) (tree : List ℕ) (told : List ℕ) : Type 0 where
+  pub answer : Keeping
+  pub words : told ≡ keepingWords answer
+  pub met : TestsTree profile question tree (keepingAnswer answer)
+
+pub record ToldProof (profile : List ℕ) (question : List ℕ) (proof : List ℕ) (told : List ℕ) : Type 0 where
+  pub answer : Checking
+  pub words : told ≡ checkingWords answer
+  pub met : ChecksProof profile question proof (checkingAnswer answer)
+
+pub record ToldCounterexample (profile : List ℕ) (question : List ℕ) (tree : List ℕ) (told : List ℕ) : Type 0 where
+  pub answer : Checking
+  pub words : told ≡ checkingWords answer
+  pub met : ChecksCounterexample profile question tree (checkingAnswer answer)
+
+pub record ToldListing (profile : List ℕ) (tree : List ℕ) (block : ℕ) (before : List ℕ) (after : List ℕ) (told : List ℕ) : Type 0 where
+  pub answer : Listing
+  pub words : told ≡ listingWords answer
+  pub met : Lists profile tree block before (listingAnswer answer after)
+
+pub record ToldDeciding (profile : List ℕ) (question : List ℕ) (before : List ℕ) (after : List ℕ) (told : List ℕ) : Type 0 where
+  pub answer : Deciding
+  pub words : told ≡ decidingWords answer
+  pub met : Decides profile question before (decidingAnswer answer after)

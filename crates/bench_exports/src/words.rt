@@ -1,0 +1,72 @@
+// An answer as four numbers: which case it is, and its values in their order, 0 where there is none.
+use answers::Checking;
+use answers::Deciding;
+use answers::Inclusion;
+use answers::Keeping;
+use answers::Listing;
+use answers::Rewriting;
+ghost use mathlib.Core.Path.{_≡_};
+ghost use Rattle.bench_exports.specs.Words.{rewritingWords, inclusionWords, keepingWords, checkingWords, listingWords, decidingWords};
+
+const REFUSED: usize = 0;
+
+const FIRST_CASE: usize = 1;
+
+const SECOND_CASE: usize = 2;
+
+pub fn of_rewriting(answer: Rewriting) -> [usize; 4]
+    ensures { λ r. ⌜ r ≡ rewritingWords answer ⌝ }
+{
+    match answer {
+        Rewriting::Rewritten(used) => [FIRST_CASE, used, 0, 0],
+        Rewriting::Refused(refusal) => [REFUSED, refusal.number, refusal.input, refusal.place],
+    }
+}
+
+pub fn of_inclusion(answer: Inclusion) -> [usize; 4]
+    ensures { λ r. ⌜ r ≡ inclusionWords answer ⌝ }
+{
+    match answer {
+        Inclusion::Included => [FIRST_CASE, 0, 0, 0],
+        Inclusion::NotIncluded => [SECOND_CASE, 0, 0, 0],
+        Inclusion::Refused(refusal) => [REFUSED, refusal.number, refusal.input, refusal.place],
+    }
+}
+
+pub fn of_keeping(answer: Keeping) -> [usize; 4]
+    ensures { λ r. ⌜ r ≡ keepingWords answer ⌝ }
+{
+    match answer {
+        Keeping::Kept => [FIRST_CASE, 0, 0, 0],
+        Keeping::Broken => [SECOND_CASE, 0, 0, 0],
+        Keeping::Refused(refusal) => [REFUSED, refusal.number, refusal.input, refusal.place],
+    }
+}
+
+pub fn of_checking(answer: Checking) -> [usize; 4]
+    ensures { λ r. ⌜ r ≡ checkingWords answer ⌝ }
+{
+    match answer {
+        Checking::Accepted => [FIRST_CASE, 0, 0, 0],
+        Checking::Refused(refusal) => [REFUSED, refusal.number, refusal.input, refusal.place],
+    }
+}
+
+pub fn of_listing(answer: Listing) -> [usize; 4]
+    ensures { λ r. ⌜ r ≡ listingWords answer ⌝ }
+{
+    match answer {
+        Listing::Listed(used) => [FIRST_CASE, used, 0, 0],
+        Listing::Refused(refusal) => [REFUSED, refusal.number, refusal.input, refusal.place],
+    }
+}
+
+pub fn of_deciding(answer: Deciding) -> [usize; 4]
+    ensures { λ r. ⌜ r ≡ decidingWords answer ⌝ }
+{
+    match answer {
+        Deciding::Implied(used) => [FIRST_CASE, used, 0, 0],
+        Deciding::NotImplied(used) => [SECOND_CASE, used, 0, 0],
+        Deciding::Refused(refusal) => [REFUSED, refusal.number, refusal.input, refusal.place],
+    }
+}
