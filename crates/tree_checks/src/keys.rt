@@ -22,18 +22,7 @@ pub fn breaks(
     ensures { λ r. ⌜ Decides (Breaks (classBy (now (classes .entry))) (fileTable (now (tree .entry))) (keyIn (now (body .entry)))) r ⌝ }
 {
     let mut run = [0u8; 4096];
-    let mut other = [0u8; 4096];
-    let found = broken_key(
-        tree,
-        classes,
-        first,
-        next,
-        class,
-        same,
-        body,
-        &mut run,
-        &mut other,
-    );
+    let found = broken_key(tree, classes, first, next, class, same, body, &mut run);
     found.found
 }
 

@@ -1,6 +1,6 @@
 -- The classes, found from the back: a node is of the class of a later node that is equal to it, or leads a class of its own. One law for
 -- each return.
-use Prim.Native.Nat.{ℕ, zero, suc, _+_, _-_, _%_, _<_, _≤_}
+use Prim.Native.Nat.{ℕ, zero, suc, _+_, _-_, _/_, _%_, _<_, _≤_}
 use mathlib.Core.Path.{_≡_, refl, sym, _∙_, ap, subst}
 use mathlib.Core.Bool.{Bool, true, false, false≢true, true≢false}
 use mathlib.Core.List.{List, [], _∷_}
@@ -26,17 +26,17 @@ pub record Weighed (κ : ℕ → Class) (t : Table) (weight : List ℕ) : Type 0
 -- The weights of the first nodes, sorted into as many buckets as there are nodes
 pub record Sorted (weight bucket : List ℕ) (count n : ℕ) : Type 0 where
   pub long : length bucket ≡ 4096
-  pub each : (x : ℕ) → x < n → getD bucket x 0 ≡ getD weight x 0 % count
+  pub each : (x : ℕ) → x < n → getD bucket x 0 ≡ getD weight x 0 / 4096 % count
 
-pub sorted-more : (weight bucket : List ℕ) (count n b : ℕ) → n < 4096 → Sorted weight bucket count n → b ≡ getD weight n 0 % count
+pub sorted-more : (weight bucket : List ℕ) (count n b : ℕ) → n < 4096 → Sorted weight bucket count n → b ≡ getD weight n 0 / 4096 % count
     → Sorted weight (set bucket n b) count (n + 1)
 sorted-more weight bucket count n b h s e =
     record { long = length-set bucket n b ∙ s .long; each = λ x g. go x g (ℕ-discrete x n) }
   where
-    go : (x : ℕ) → x < n + 1 → Dec (x ≡ n) → getD (set bucket n b) x 0 ≡ getD weight x 0 % count
+    go : (x : ℕ) → x < n + 1 → Dec (x ≡ n) → getD (set bucket n b) x 0 ≡ getD weight x 0 / 4096 % count
     go x g (yes z) =
         ap (λ (k : ℕ). getD (set bucket n b) k 0) z ∙ getD-set-same bucket n b 0 (let l = s .long in omega arith) ∙ e
-        ∙ sym (ap (λ (k : ℕ). getD weight k 0 % count) z)
+        ∙ sym (ap (λ (k : ℕ). getD weight k 0 / 4096 % count) z)
     go x g (no m) = getD-set-other bucket n x b 0 m ∙ s .each x (omega arith)
 
 module _ (κ : ℕ → Class) (t : Table) (x y : ℕ) where
@@ -85,7 +85,7 @@ module _ (κ : ℕ → Class) (t : Table) (weight bucket chained : List ℕ) (w 
     (links : Nexts (byClass (t .size) bucket) chained) where
   same-bucket : (x k : ℕ) → x < t .size → k < t .size → Equal κ t x k → getD bucket k 0 ≡ getD bucket x 0
   same-bucket x k h g q =
-      sorted .each k g ∙ ap (λ (n : ℕ). n % t .size) (sym (w .equal x k h g q)) ∙ sym (sorted .each x h)
+      sorted .each k g ∙ ap (λ (n : ℕ). n / 4096 % t .size) (sym (w .equal x k h g q)) ∙ sym (sorted .each x h)
 
   pub seeking-start : (x y : ℕ) → 0 < x → x < t .size → y ≡ getD chained x 0 → Seeking κ t bucket x y
   seeking-start x y p h e =
@@ -198,10 +198,11 @@ module _ (κ : ℕ → Class) (t : Table) (class : List ℕ) (j r : ℕ) (low : 
           still u n ∙ is .one u (omega arith) g (subst (Equal κ t u) f q) ∙ sym (there v f)
       single u v h g k l q (no n) (no m) = still u n ∙ c .one u v (omega arith) g (omega arith) l q ∙ sym (still v m)
 
-module _ (κ : ℕ → Class) (t : Table) (tree : IsTree κ t) (class : List ℕ) (i : ℕ) (low : i ≤ 1) (c : ClassedFrom κ t class i) where
-  apart : (y : ℕ) → 0 < y → y < t .size → (x : ℕ) → x ≡ 0 → Equal κ t x y → ⊥
-  apart y p h x z q = tree .rest y p h .notRoot (sym (equal-label q) ∙ ap (λ (k : ℕ). t .label k) z ∙ tree .root)
+-- the root alone has its label
+pub apart : (κ : ℕ → Class) (t : Table) → IsTree κ t → (y : ℕ) → 0 < y → y < t .size → (x : ℕ) → x ≡ 0 → Equal κ t x y → ⊥
+apart κ t tree y p h x z q = tree .rest y p h .notRoot (sym (equal-label q) ∙ ap (λ (k : ℕ). t .label k) z ∙ tree .root)
 
+module _ (κ : ℕ → Class) (t : Table) (tree : IsTree κ t) (class : List ℕ) (i : ℕ) (low : i ≤ 1) (c : ClassedFrom κ t class i) where
   pub classed-all : ParentsSmaller t → Classed κ t class
   classed-all small =
       record {
@@ -227,8 +228,8 @@ module _ (κ : ℕ → Class) (t : Table) (tree : IsTree κ t) (class : List ℕ
 
       equal-it : (x y : ℕ) → x < t .size → y < t .size → Equal κ t x y → Dec (x ≡ 0) → Dec (y ≡ 0) → getD class x 0 ≡ getD class y 0
       equal-it x y h g q (yes z) (yes w) = ap (λ (k : ℕ). getD class k 0) (z ∙ sym w)
-      equal-it x y h g q (yes z) (no m) = absurd (apart y (omega arith) g x z q)
-      equal-it x y h g q (no n) (yes w) = absurd (apart x (omega arith) h y w (equal-symmetric q))
+      equal-it x y h g q (yes z) (no m) = absurd (apart κ t tree y (omega arith) g x z q)
+      equal-it x y h g q (no n) (yes w) = absurd (apart κ t tree x (omega arith) h y w (equal-symmetric q))
       equal-it x y h g q (no n) (no m) = c .one x y (omega arith) h (omega arith) g q
 
 pub classed-at : (κ : ℕ → Class) (t : Table) (class : List ℕ) (j : ℕ) → 1 < j → ClassedFrom κ t class j → ClassedFrom κ t class (j - 1 + 1)
@@ -247,7 +248,7 @@ pub chained-at : (bucket chained : List ℕ) (count size : ℕ) → count ≡ si
 chained-at bucket chained count size e s = subst (λ (n : ℕ). Nexts (byClass n bucket) chained) e s
 
 pub sorted-inside : (weight bucket : List ℕ) (count : ℕ) → 0 < count → Sorted weight bucket count count → (x : ℕ) → x < count → getD bucket x 0 < count
-sorted-inside weight bucket count p s x h = let e = s .each x h in let m = mod-lt (getD weight x 0) p in omega arith
+sorted-inside weight bucket count p s x h = let e = s .each x h in let m = mod-lt (getD weight x 0 / 4096) p in omega arith
 
 pub bucket-small : (w count : ℕ) → 0 < count → w % count < count
 bucket-small w count p = mod-lt w p

@@ -1,6 +1,6 @@
-// The class of each node: one node that stands for all that are equal to it, found among later nodes of the same weight by `node_eq`; and the
-// next node of its class.
+// The class of each node: the smallest node equal to it, found among nodes of the same weight by `node_eq`; and the next node of its class.
 use tree_equal::node_eq;
+use tree_nodes::fields::NODES;
 use tree_nodes::fields::size;
 use tree_nodes::links::at;
 use tree_nodes::links::blank;
@@ -15,6 +15,7 @@ ghost use Rattle.tree_nodes.specs.Links.{Nexts};
 ghost use Rattle.tree_nodes.specs.Decides.{Decides};
 ghost use Rattle.tree_equal.specs.Classed.{Classed};
 ghost use Rattle.tree_classes.specs.Leaders.{Weighed, Sorted, ClassIs, ClassedFrom};
+ghost use Rattle.tree_classes.specs.Lowest.{LowFrom, NamedTo, Smallest};
 ghost use Rattle.tree_classes.specs.Chain.{byClass};
 
 fn wide(n: u32) -> usize
@@ -23,7 +24,8 @@ fn wide(n: u32) -> usize
     n as usize
 }
 
-// The weights sorted into as many buckets as there are nodes: equal nodes stand in one bucket.
+// The weights sorted into as many buckets as there are nodes: equal nodes stand in one bucket. The low part of a weight is a count of nodes, equal
+// for all leaves; the part above it is spread.
 fn sort(weight: &[u32; 4096], count: usize) -> [u16; 4096]
     requires { ⌜ (0 < count) × (count ≤ 4096) ⌝ }
     ensures { λ r. ⌜ Sorted (now (weight .entry)) r count count ⌝ }
@@ -31,7 +33,7 @@ fn sort(weight: &[u32; 4096], count: usize) -> [u16; 4096]
     let mut bucket = blank();
     let mut x = 0;
     while x < count {
-        let own = wide(weight[x]) % count;
+        let own = wide(weight[x]) / NODES % count;
         bucket[x] = own as u16;
         x += 1;
     }
@@ -85,8 +87,8 @@ fn class_of(
     x
 }
 
-// The class of each node, once per tree, from the back.
-pub fn classify(
+// A class for each node, from the back.
+fn gather(
     tree: &[u8],
     classes: &[u8; 256],
     first: &[u16; 4096],
@@ -117,6 +119,53 @@ pub fn classify(
         class[x] = own as u16;
     }
     class
+}
+
+// Of each class its smallest node.
+fn lowest(class: &[u16; 4096], count: usize) -> [u16; 4096]
+    requires { ⌜ (0 < count) × (count ≤ 4096) × ((x : ℕ) → x < count → getD (now class) x 0 < count) ⌝ }
+    ensures { λ r. ⌜ LowFrom (now (class .entry)) r count 1 ⌝ }
+{
+    let mut low = blank();
+    let mut x = count;
+    while 1 < x {
+        x -= 1;
+        let own = at(class, x);
+        low[own] = x as u16;
+    }
+    low
+}
+
+// Each class by its smallest node.
+fn name(class: &[u16; 4096], low: &[u16; 4096], count: usize) -> [u16; 4096]
+    requires { ⌜ (0 < count) × (count ≤ 4096) × ((x : ℕ) → x < count → getD (now class) x 0 < count) ⌝ }
+    ensures { λ r. ⌜ NamedTo (now (class .entry)) (now (low .entry)) r count ⌝ }
+{
+    let mut named = blank();
+    let mut x = 1;
+    while x < count {
+        let own = at(class, x);
+        named[x] = low[own];
+        x += 1;
+    }
+    named
+}
+
+// The class of each node, once per tree: the smallest node equal to it.
+pub fn classify(
+    tree: &[u8],
+    classes: &[u8; 256],
+    first: &[u16; 4096],
+    next: &[u16; 4096],
+    weight: &[u32; 4096],
+) -> [u16; 4096]
+    requires { ⌜ Ready (now classes) (now tree) (now first) (now next) × Weighed (classBy (now classes)) (fileTable (now tree)) (now weight) ⌝ }
+    ensures { λ r. ⌜ Classed (classBy (now (classes .entry))) (fileTable (now (tree .entry))) r × Smallest (classBy (now (classes .entry))) (fileTable (now (tree .entry))) r ⌝ }
+{
+    let class = gather(tree, classes, first, next, weight);
+    let count = size(tree);
+    let low = lowest(&class, count);
+    name(&class, &low, count)
 }
 
 // To each node the next one of its class; 0 where there is none.

@@ -1,16 +1,16 @@
 -- The search over pairs of equal nodes that the first key path reaches: one law for each return.
 use Prim.Native.Nat.{ℕ, zero, suc, _+_, _-_, _<_, _≤_}
 use mathlib.Core.Path.{_≡_, refl, sym, _∙_, ap, subst}
-use mathlib.Core.Logic.{_≢_}
+use mathlib.Core.Logic.{_≢_, _⊎_, inl, inr}
 use mathlib.Core.Bool.{Bool, true, false, false≢true, true≢false}
 use mathlib.Core.List.{List, [], _∷_}
 use native.Mathlib.Omega.{arith}
 use native.Mathlib.Decide.{ℕ-discrete, decLt}
 use lib.Dec.{T}
-use lib.ListN.{length, getD}
+use lib.ListN.{length, getD, set, take, drop}
 use Rattle.meaning.specs.Lists.{every}
 use Rattle.meaning.specs.Paths.{Class, simple}
-use Rattle.meaning.specs.Trees.{Table, IsTree, Child, Down, Reached, Equal}
+use Rattle.meaning.specs.Trees.{Table, IsTree, Child, Down, here, Reached, Equal}
 use Rattle.meaning.specs.Keys.{Key, EqualPair, Breaks}
 use Rattle.meaning.specs.Records.{readKey, keyIn, isSome}
 use Rattle.theory_trees.specs.Below.{ParentsSmaller, rigid-node, down-inside}
@@ -18,14 +18,15 @@ use Rattle.theory_trees.specs.Laws.{equal-label, equal-symmetric}
 use Rattle.theory_trees.specs.Reach.{reached-inside, reached-down}
 use Rattle.tree_nodes.specs.FileTable.{fileTable, classBy, TreeBytes}
 use Rattle.tree_nodes.specs.Ready.{Ready}
-use Rattle.tree_nodes.specs.Links.{LeastChild, Nexts}
-use Rattle.tree_nodes.specs.Seek.{left, left-falls}
+use Rattle.tree_nodes.specs.Links.{Nexts}
 use Rattle.tree_nodes.specs.Decides.{Decides}
 use Rattle.tree_equal.specs.Classed.{Classed}
 use Rattle.tree_pairs.specs.Pairs.{each-one, simple-at}
-use Rattle.tree_classes.specs.Chain.{byClass}
+use Rattle.tree_pairs.specs.Descent.{Hit, Descending, hit-none}
+use Rattle.tree_classes.specs.Chain.{byClass, next-in}
+use Rattle.tree_reach.specs.Tops.{Tops}
 use Rattle.tree_search.specs.Origin.{OriginIs}
-use Rattle.tree_search.specs.Clash.{Agreeing, Witness, ClashBy, swap-agreeing, witness-breaks}
+use Rattle.tree_search.specs.Clash.{Agreeing, Witness, Apart, Memo, Untried, memo-more, other-context, swap-agreeing, witness-breaks}
 
 -- What an accepted key gives: it can be read, it has key paths, and they are simple
 pub record GoodKey (body : List ℕ) : Type 0 where
@@ -39,144 +40,165 @@ pub record Prepared (classes bytes first next class same : List ℕ) : Type 0 wh
   pub classed : Classed (classBy classes) (fileTable bytes) class
   pub chained : Nexts (byClass (fileTable bytes .size) class) same
 
--- What is found of the pair of a node whose origin is a, and y
-pub record TriedBy (κ : ℕ → Class) (t : Table) (key : Key) (path : List ℕ) (a y : ℕ) (found : Bool) (q first second : ℕ) : Type 0 where
-  pub yes : found ≡ true → Witness κ t key q first second
-  pub no : found ≡ false → (b p : ℕ) → Down t b path y → a ≢ b → Agreeing κ t key p a b → ⊥
+-- A later node of the class of x belongs to another target, which agrees with a
+pub record Pairing (κ : ℕ → Class) (t : Table) (key : Key) (path class : List ℕ) (a x : ℕ) : Type 0 where
+  pub y : ℕ
+  pub b : ℕ
+  pub q : ℕ
+  pub positive : 0 < x
+  pub later : x < y
+  pub inside : y < t .size
+  pub same : getD class y 0 ≡ getD class x 0
+  pub down : Down t b path y
+  pub different : a ≢ b
+  pub agreeing : Agreeing κ t key q a b
+
+-- What each part of the search answers: a witness by its numbers, or that there is no such pair; then the memo holds
+pub record Searched (κ : ℕ → Class) (t : Table) (key : Key) (a : ℕ) (Left : Type 0) (seen : List ℕ) (found : Bool) (q first second : ℕ) : Type 0
+  where
+    pub yes : found ≡ true → Witness κ t key q first second
+    pub no : found ≡ false → Left → ⊥
+    pub memo : found ≡ false → Memo κ t key a seen
+
+module _ (κ : ℕ → Class) (t : Table) (key : Key) (a : ℕ) (Left : Type 0) (seen : List ℕ) where
+  pub searched-none : (found : Bool) (q f s : ℕ) → found ≡ false → (Left → ⊥) → Memo κ t key a seen → Searched κ t key a Left seen found q f s
+  searched-none found q f s e n m = record { yes = λ h. absurd (false≢true (sym e ∙ h)); no = λ h. n; memo = λ h. m }
+
+  pub searched-found : (q f s : ℕ) → Witness κ t key q f s → Searched κ t key a Left seen true q f s
+  searched-found q f s w = record { yes = λ h. w; no = λ h. absurd (true≢false h); memo = λ h. absurd (true≢false h) }
+
+-- y belongs to another target, which agrees with a
+pub record Partner (κ : ℕ → Class) (t : Table) (key : Key) (path : List ℕ) (a y : ℕ) : Type 0 where
+  pub b : ℕ
+  pub q : ℕ
+  pub down : Down t b path y
+  pub different : a ≢ b
+  pub agreeing : Agreeing κ t key q a b
 
 module _ (κ : ℕ → Class) (t : Table) (key : Key) (path : List ℕ) (a y r : ℕ) (o : OriginIs t path y r) where
-  pub tried-none : (q f s : ℕ) → r ≡ 4096 → TriedBy κ t key path a y false q f s
-  tried-none q f s e = record { yes = λ h. absurd (false≢true h); no = λ h b p d n g. o .none e b d }
+  pub partner-none : r ≡ 4096 → Partner κ t key path a y → ⊥
+  partner-none e p = o .none e (p .b) (p .down)
 
-  origin-is : (r ≡ 4096 → ⊥) → (b : ℕ) → Down t b path y → b ≡ r
-  origin-is n b d = rigid-node d (o .down n) refl
+  pub partner-apart : (r ≡ 4096 → ⊥) → Apart κ t key a r → Partner κ t key path a y → ⊥
+  partner-apart n h p = h .no (p .q) (subst (Agreeing κ t key (p .q) a) (rigid-node (p .down) (o .down n) refl) (p .agreeing))
 
-  pub tried-same : (q f s : ℕ) → (r ≡ 4096 → ⊥) → r ≡ a → TriedBy κ t key path a y false q f s
-  tried-same q f s n e = record { yes = λ h. absurd (false≢true h); no = λ h b p d m g. m (sym e ∙ sym (origin-is n b d)) }
+  pub partner-tried : (tops seen : List ℕ) (u : Bool) → ParentsSmaller t → 0 < t .size → t .size ≤ 4096
+      → Tops t (key .context) (key .target) tops → a < t .size → Memo κ t key a seen → (r ≡ 4096 → ⊥) → Untried tops seen a r u → u ≡ false
+      → Partner κ t key path a y → ⊥
+  partner-tried tops seen u small some few highest ia m n w e p = go (w .no e)
+    where
+      go : (r ≡ a) ⊎ ((getD tops a 0 ≢ getD tops r 0) ⊎ (getD seen r 0 ≡ a + 1)) → ⊥
+      go (inl z) = p .different (sym z ∙ sym (rigid-node (p .down) (o .down n) refl))
+      go (inr (inl z)) = partner-apart n (other-context κ t key tops small some few highest a ia r (o .inside n) z) p
+      go (inr (inr z)) = partner-apart n (m .tried r z) p
 
-  pub tried-so : (found : Bool) (at : ℕ) → (r ≡ 4096 → ⊥) → (r ≡ a → ⊥) → ClashBy κ t key a r found at
-      → TriedBy κ t key path a y found at a r
-  tried-so found at n m c =
-      record {
-        yes = λ h. record { agreeing = c .yes h; different = λ e. m (sym e) };
-        no = λ h b p d l g. c .no h p (subst (Agreeing κ t key p a) (origin-is n b d) g);
-      }
-
--- No later node of the class of x has a pair with it
-pub record Clear (κ : ℕ → Class) (t : Table) (key : Key) (path class : List ℕ) (x : ℕ) : Type 0 where
-  pub no : (y a b q : ℕ) → x < y → y < t .size → getD class y 0 ≡ getD class x 0 → Down t a path x → Down t b path y → a ≢ b
-      → Agreeing κ t key q a b → ⊥
-
-pub record SearchedBy (κ : ℕ → Class) (t : Table) (key : Key) (path class : List ℕ) (x : ℕ) (found : Bool) (q first second : ℕ) : Type 0 where
-  pub yes : found ≡ true → Witness κ t key q first second
-  pub no : found ≡ false → Clear κ t key path class x
-
--- At link y of the chain of x, whose origin is a: a pair is with y or with a later node
-pub record Passing (κ : ℕ → Class) (t : Table) (key : Key) (path class : List ℕ) (x a y : ℕ) : Type 0 where
+-- At link y of the chain of x: a later node that has a partner is y or comes after it
+pub record Passing (κ : ℕ → Class) (t : Table) (key : Key) (path class : List ℕ) (a x y : ℕ) : Type 0 where
   pub inside : y < t .size
   pub member : 0 < y → (x < y) × (getD class y 0 ≡ getD class x 0)
-  pub later : (z b q : ℕ) → x < z → z < t .size → getD class z 0 ≡ getD class x 0 → Down t b path z → a ≢ b → Agreeing κ t key q a b
-      → (0 < y) × (y ≤ z)
+  pub later : (p : Pairing κ t key path class a x) → (0 < y) × (y ≤ p .y)
 
-module _ (κ : ℕ → Class) (t : Table) (key : Key) (path class same : List ℕ) (chained : Nexts (byClass (t .size) class) same) where
-  -- the next of the class after v
-  next-of : (v n : ℕ) → 0 < v → v < t .size → n ≡ getD same v 0 → LeastChild (byClass (t .size) class) (getD class v 0) (v + 1) n
-  unfolding byClass
-  next-of v n p h e = subst (LeastChild (byClass (t .size) class) (getD class v 0) (v + 1)) (sym e) (chained .link v p h)
+module _ (κ : ℕ → Class) (t : Table) (key : Key) (path class same : List ℕ) (chained : Nexts (byClass (t .size) class) same) (a x : ℕ) where
+  pub passing-start : (y : ℕ) → 0 < x → x < t .size → y ≡ getD same x 0 → Passing κ t key path class a x y
+  passing-start y p h e =
+      let n = next-in (t .size) class same chained x y p h e in
+      record { inside = n .inside; member = n .member; later = λ w. n .least (w .y) (w .later) (w .inside) (w .same) }
 
-  module _ (x a : ℕ) where
-    linked : (v n : ℕ) → n < t .size → LeastChild (byClass (t .size) class) (getD class x 0) (v + 1) n → x ≤ v
-        → ((z b q : ℕ) → x < z → z < t .size → getD class z 0 ≡ getD class x 0 → Down t b path z → a ≢ b → Agreeing κ t key q a b → v < z)
-        → Passing κ t key path class x a n
-    unfolding byClass
-    linked v n h l g after =
-        record {
-          inside = h;
-          member = λ p. let c = l .child p in (let b = c .1 in omega arith, c .0 .below);
-          later = λ z b q p i e d m w. l .skipped z (let f = after z b q p i e d m w in omega arith)
-              (record { notRoot = omega arith; inside = i; below = e });
-        }
-
-    within : (v i n : ℕ) → 0 < t .size → LeastChild (byClass (t .size) class) v i n → n < t .size
-    unfolding byClass
-    within v i zero p l = p
-    within v i (suc n) p l = l .child (omega arith) .0 .inside
-
-    pub passing-start : (y : ℕ) → 0 < x → x < t .size → y ≡ getD same x 0 → Passing κ t key path class x a y
-    passing-start y p h e =
-        let l = next-of x y p h e in
-        linked x y (within (getD class x 0) (x + 1) y (omega arith) l) l (omega arith) (λ z b q g i f d m w. g)
-
-    pub passing-next : (y n q f s : ℕ) → 0 < y → Passing κ t key path class x a y → (r : Bool) → TriedBy κ t key path a y r q f s → r ≡ false
-        → n ≡ getD same y 0 → Passing κ t key path class x a n
-    passing-next y n q f s p c r d z e =
-        let m = c .member p in
-        let l = subst (λ (k : ℕ). LeastChild (byClass (t .size) class) k (y + 1) n) (m .1) (next-of y n p (c .inside) e) in
-        linked y n (within (getD class x 0) (y + 1) n (let i = c .inside in omega arith) l) l (let g = m .0 in omega arith)
-        (λ u b k g i h w v o. after u b k g i h w v o (ℕ-discrete u y))
-      where
-        after : (u b k : ℕ) → x < u → u < t .size → getD class u 0 ≡ getD class x 0 → Down t b path u → a ≢ b → Agreeing κ t key k a b
-            → Dec (u ≡ y) → y < u
-        after u b k g i h w v o (yes j) = absurd (d .no z b k (subst (Down t b path) j w) v o)
-        after u b k g i h w v o (no j) = let j2 = c .later u b k g i h w v o .1 in omega arith
-
-    pub passing-falls : (y n : ℕ) → 0 < y → y < t .size → n ≡ getD same y 0 → left (t .size) n < left (t .size) y
-    passing-falls y n p h e = left-falls (t .size) y n p h (λ g. let b = next-of y n p h e .child g .1 in omega arith)
-
-module _ (κ : ℕ → Class) (t : Table) (key : Key) (path class : List ℕ) (x a : ℕ) (o : OriginIs t path x a) where
-  pub searched-none : (q f s : ℕ) → a ≡ 4096 → SearchedBy κ t key path class x false q f s
-  searched-none q f s e =
-      record { yes = λ h. absurd (false≢true h); no = λ h. record { no = λ y a′ b p g i j d w m v. o .none e a′ d } }
-
-  pub searched-end : (y q f s : ℕ) → (a ≡ 4096 → ⊥) → y ≡ 0 → Passing κ t key path class x a y → SearchedBy κ t key path class x false q f s
-  searched-end y q f s n z c =
+  pub passing-next : (y n : ℕ) → 0 < y → Passing κ t key path class a x y → (Partner κ t key path a y → ⊥) → n ≡ getD same y 0
+      → Passing κ t key path class a x n
+  passing-next y n p c none e =
+      let m = c .member p in
+      let g = m .0 in
+      let k = next-in (t .size) class same chained y n p (c .inside) e in
       record {
-        yes = λ h. absurd (false≢true h);
-        no = λ h. record {
-          no = λ u a′ b p g i j d w m v.
-              let e = rigid-node d (o .down n) refl in
-              let k = c .later u b p g i j w (λ l. m (e ∙ l)) (subst (λ (k : ℕ). Agreeing κ t key p k b) e v) .0 in
-              omega arith;
-        };
+        inside = k .inside;
+        member = λ h. let u = k .member h in let u0 = u .0 in (omega arith, u .1 ∙ m .1);
+        later = λ w. k .least (w .y) (after w (ℕ-discrete (w .y) y)) (w .inside) (w .same ∙ sym (m .1));
       }
+    where
+      after : (w : Pairing κ t key path class a x) → Dec (w .y ≡ y) → y < w .y
+      after w (yes j) =
+          absurd (none (record { b = w .b; q = w .q; down = subst (Down t (w .b) path) j (w .down); different = w .different; agreeing = w .agreeing }))
+      after w (no j) = let i = c .later w .1 in omega arith
 
-pub searched-found : (κ : ℕ → Class) (t : Table) (key : Key) (path class : List ℕ) (x a y : ℕ) (r : Bool) (q f s : ℕ)
-    → TriedBy κ t key path a y r q f s → r ≡ true → SearchedBy κ t key path class x true q f s
-searched-found κ t key path class x a y r q f s d e = record { yes = λ h. d .yes e; no = λ h. absurd (true≢false h) }
+pub passing-end : (κ : ℕ → Class) (t : Table) (key : Key) (path class : List ℕ) (a x y : ℕ) → y ≡ 0 → Passing κ t key path class a x y
+    → Pairing κ t key path class a x → ⊥
+passing-end κ t key path class a x y z c w = let b = c .later w .0 in omega arith
 
--- The nodes searched so far
+-- One law for each return of `search_below`
+module _ (κ : ℕ → Class) (t : Table) (key : Key) (path class : List ℕ) (a v : ℕ) (rest : List ℕ) where
+  hit-here : length rest ≡ 0 → Hit t (Pairing κ t key path class a) v rest → Pairing κ t key path class a v
+  hit-here e w = go rest e (w .down) (w .holds)
+    where
+      go : (run : List ℕ) → length run ≡ 0 → {n : ℕ} → Down t v run n → Pairing κ t key path class a n → Pairing κ t key path class a v
+      go [] e (here p) f = subst (Pairing κ t key path class a) (sym p) f
+      go (l ∷ run) e d f = absurd (omega arith)
+
+  pub below-root : length rest ≡ 0 → v ≡ 0 → Hit t (Pairing κ t key path class a) v rest → ⊥
+  below-root e z w = let p = hit-here e w .positive in omega arith
+
+  pub below-here : (seen : List ℕ) (found : Bool) (q f s : ℕ) → length rest ≡ 0
+      → Searched κ t key a (Pairing κ t key path class a v) seen found q f s
+      → Searched κ t key a (Hit t (Pairing κ t key path class a) v rest) seen found q f s
+  below-here seen found q f s e r = record { yes = r .yes; no = λ h w. r .no h (hit-here e w); memo = r .memo }
+
+  pub below-none : (c l : ℕ) → 0 < length rest → l ≡ getD rest 0 0 → c ≡ 0
+      → Descending t (Pairing κ t key path class a) v l (take (length rest - 1) (drop 1 rest)) c → Hit t (Pairing κ t key path class a) v rest → ⊥
+  below-none c l h e z d w = hit-none t (Pairing κ t key path class a) v rest c l h e z d .no refl w
+
+  pub below-apart : ((b : ℕ) → Apart κ t key a b) → Hit t (Pairing κ t key path class a) v rest → ⊥
+  below-apart h w = let p = w .holds in h (p .b) .no (p .q) (p .agreeing)
+
+-- The targets searched so far
 pub record SearchedTo (κ : ℕ → Class) (t : Table) (key : Key) (path class : List ℕ) (n : ℕ) : Type 0 where
-  pub each : (x : ℕ) → 0 < x → x < n → Clear κ t key path class x
+  pub each : (a : ℕ) → a < n → Hit t (Pairing κ t key path class a) a path → ⊥
 
 -- What the search answers: a witness by its numbers, or that the tree keeps the key
 pub record BrokenBy (κ : ℕ → Class) (t : Table) (key : Key) (found : Bool) (q a b : ℕ) : Type 0 where
   pub yes : found ≡ true → Witness κ t key q a b
   pub no : found ≡ false → Breaks κ t key → ⊥
 
+pub broken-found : (κ : ℕ → Class) (t : Table) (key : Key) (q a b : ℕ) → Witness κ t key q a b → BrokenBy κ t key true q a b
+broken-found κ t key q a b w = record { yes = λ h. w; no = λ h. absurd (true≢false h) }
+
 module _ (κ : ℕ → Class) (t : Table) (key : Key) (path class : List ℕ) where
-  pub to-none : SearchedTo κ t key path class 1
-  to-none = record { each = λ x p h. absurd (omega arith) }
+  pub to-none : SearchedTo κ t key path class 0
+  to-none = record { each = λ a h. absurd (omega arith) }
 
-  pub to-more : (n : ℕ) (r : Bool) (q f s : ℕ) → SearchedTo κ t key path class n → SearchedBy κ t key path class n r q f s → r ≡ false
+  pub to-more : (n : ℕ) → SearchedTo κ t key path class n → (Hit t (Pairing κ t key path class n) n path → ⊥)
       → SearchedTo κ t key path class (n + 1)
-  to-more n r q f s c d e = record { each = λ x p h. go x p h (ℕ-discrete x n) }
+  to-more n c d = record { each = λ a h. go a h (ℕ-discrete a n) }
     where
-      go : (x : ℕ) → 0 < x → x < n + 1 → Dec (x ≡ n) → Clear κ t key path class x
-      go x p h (yes z) = subst (Clear κ t key path class) (sym z) (d .no e)
-      go x p h (no m) = c .each x p (omega arith)
-
-  pub broken-found : (x : ℕ) (r : Bool) (q f s : ℕ) → SearchedBy κ t key path class x r q f s → r ≡ true → BrokenBy κ t key true q f s
-  broken-found x r q f s d e = record { yes = λ h. d .yes e; no = λ h. absurd (true≢false h) }
+      go : (a : ℕ) → a < n + 1 → Dec (a ≡ n) → Hit t (Pairing κ t key path class a) a path → ⊥
+      go a h (yes z) = subst (λ (k : ℕ). Hit t (Pairing κ t key path class k) k path → ⊥) (sym z) d
+      go a h (no m) = c .each a (omega arith)
 
   module _ (tree : IsTree κ t) (classed : Classed κ t class) (n : ℕ) (all : t .size ≤ n) (cleared : SearchedTo κ t key path class n)
       (simples : T (every simple (key .paths))) (first : path ≡ getD (key .paths) 0 []) (some : 0 < length (key .paths)) where
     -- a pair of the first key path, the smaller node first
-    ordered : (q a b x y : ℕ) → Agreeing κ t key q a b → a ≢ b → x < t .size → y < t .size → x < y → Down t a path x → Down t b path y
-        → Equal κ t x y → ⊥
-    ordered q a b x y g d ix iy h dx dy e = go (decLt 0 x)
+    ordered : (q a b x y : ℕ) → Agreeing κ t key q a b → a ≢ b → a < t .size → x < t .size → y < t .size → x < y → Down t a path x
+        → Down t b path y → Equal κ t x y → ⊥
+    ordered q a b x y g d ia ix iy h dx dy e = go (decLt 0 x)
       where
         go : Dec (0 < x) → ⊥
-        go (yes p) = cleared .each x p (omega arith) .no y a b q h iy (sym (classed .equal x y ix iy e)) dx dy d g
+        go (yes p) =
+            cleared .each a (omega arith)
+            (record {
+              node = x;
+              down = dx;
+              holds = record {
+                y = y;
+                b = b;
+                q = q;
+                positive = p;
+                later = h;
+                inside = iy;
+                same = sym (classed .equal x y ix iy e);
+                down = dy;
+                different = d;
+                agreeing = g;
+              };
+            })
         go (no m) =
             let z : x ≡ 0 = omega arith in
             tree .rest y (omega arith) iy .notRoot (sym (equal-label e) ∙ ap (λ (k : ℕ). t .label k) z ∙ tree .root)
@@ -184,25 +206,25 @@ module _ (κ : ℕ → Class) (t : Table) (key : Key) (path class : List ℕ) wh
     kept : Breaks κ t key → ⊥
     kept w =
         let iq = reached-inside (w .context) (tree .some) in
+        let ia = reached-inside (w .first) iq in
+        let ib = reached-inside (w .second) iq in
         let p = subst (EqualPair κ t (w .a) (w .b)) (sym first) (each-one (w .pairs) 0 some) in
         let s = subst (λ (P : List ℕ). T (simple P)) (sym first) (simple-at (key .paths) simples 0 some) in
         let dx = reached-down path s (p .fromFirst) in
         let dy = reached-down path s (p .fromSecond) in
-        let ix = down-inside dx (reached-inside (w .first) iq) in
-        let iy = down-inside dy (reached-inside (w .second) iq) in
         let g : Agreeing κ t key (w .q) (w .a) (w .b) =
         record { context = w .context; first = w .first; second = w .second; pairs = w .pairs } in
-        go g (p .x) (p .y) dx dy ix iy (p .equal) (decLt (p .x) (p .y)) (ℕ-discrete (p .x) (p .y))
+        go g ia ib (p .x) (p .y) dx dy (down-inside dx ia) (down-inside dy ib) (p .equal) (decLt (p .x) (p .y)) (ℕ-discrete (p .x) (p .y))
       where
-        go : Agreeing κ t key (w .q) (w .a) (w .b) → (x y : ℕ) → Down t (w .a) path x → Down t (w .b) path y → x < t .size → y < t .size
-            → Equal κ t x y → Dec (x < y) → Dec (x ≡ y) → ⊥
-        go g x y dx dy ix iy e (yes h) c = ordered (w .q) (w .a) (w .b) x y g (w .different) ix iy h dx dy e
-        go g x y dx dy ix iy e (no h) (yes c) = w .different (rigid-node (subst (Down t (w .a) path) c dx) dy refl)
-        go g x y dx dy ix iy e (no h) (no c) =
-            ordered (w .q) (w .b) (w .a) y x (swap-agreeing g) (λ z. w .different (sym z)) iy ix (omega arith) dy dx (equal-symmetric e)
+        go : Agreeing κ t key (w .q) (w .a) (w .b) → w .a < t .size → w .b < t .size → (x y : ℕ) → Down t (w .a) path x → Down t (w .b) path y
+            → x < t .size → y < t .size → Equal κ t x y → Dec (x < y) → Dec (x ≡ y) → ⊥
+        go g ia ib x y dx dy ix iy e (yes h) c = ordered (w .q) (w .a) (w .b) x y g (w .different) ia ix iy h dx dy e
+        go g ia ib x y dx dy ix iy e (no h) (yes c) = w .different (rigid-node (subst (Down t (w .a) path) c dx) dy refl)
+        go g ia ib x y dx dy ix iy e (no h) (no c) =
+            ordered (w .q) (w .b) (w .a) y x (swap-agreeing g) (λ z. w .different (sym z)) ib iy ix (omega arith) dy dx (equal-symmetric e)
 
-    pub broken-none : (q a b : ℕ) → BrokenBy κ t key false q a b
-    broken-none q a b = record { yes = λ h. absurd (false≢true h); no = λ h. kept }
+    pub broken-none : (found : Bool) (q a b : ℕ) → found ≡ false → BrokenBy κ t key found q a b
+    broken-none found q a b e = record { yes = λ h. absurd (false≢true (sym e ∙ h)); no = λ h. kept }
 
 -- the answer decides whether the tree breaks the key
 pub broken-decides : {κ : ℕ → Class} {t : Table} {key : Key} {found : Bool} {q a b : ℕ} → BrokenBy κ t key found q a b

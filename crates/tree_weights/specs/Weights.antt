@@ -1,5 +1,5 @@
 -- Weights: label, value and the sum of the children's weights, mixed into 32 bits. One law for each way of the code.
-use Prim.Native.Nat.{ℕ, zero, suc, _+_, _-_, _*_, _%_, _<_, _≤_}
+use Prim.Native.Nat.{ℕ, zero, suc, _+_, _-_, _*_, _/_, _%_, _<_, _≤_}
 use mathlib.Core.Path.{_≡_, refl, sym, _∙_, ap, ap₂, subst}
 use mathlib.Core.Bool.{Bool, true, false, cond, not}
 use mathlib.Core.List.{List, [], _∷_, List·Memᴰ, List·Memᴰ·head, List·Memᴰ·tail}
@@ -20,8 +20,12 @@ abbrev pub range : ℕ
 range = 4294967296
 
 -- label, value and sum in one number, spread by a product that is not linear, so that values exchanged between labels weigh otherwise
+unfoldable pub spread : ℕ → ℕ → ℕ → ℕ
+spread label value sum = (label * 65536 + value + sum) % range * ((label * 65536 + value + sum) % range % 65536 + 40503) % range
+
+-- its low part gives way to the count of the nodes from there down
 unfoldable pub mix : ℕ → ℕ → ℕ → ℕ
-mix label value sum = (label * 65536 + value + sum) % range * ((label * 65536 + value + sum) % range % 65536 + 40503) % range
+mix label value sum = spread label value sum / 4096 * 4096 + (sum + 1) % 4096
 
 -- an element weighs by its children, attribute and text by the value
 unfoldable pub weightOf : (ℕ → Class) → Table → ℕ → ℕ → ℕ

@@ -1,5 +1,8 @@
 // A weight for each node, once per tree and backwards (children stand after their parents): label, value and the sum of the children's weights
 // mixed into 32 bits, such that value-equal nodes have equal weights. A sum, so that the order of children does not matter.
+// The low part of a weight counts the nodes from there down, exactly, since a sum keeps it and no node but the root has 4,096. So nodes of one
+// weight never lie below each other, and all calls of `node_eq` on them together visit at most the square of the nodes, whatever else collides.
+use tree_nodes::fields::NODES;
 use tree_nodes::fields::is_element;
 use tree_nodes::fields::label;
 use tree_nodes::fields::parent;
@@ -30,7 +33,8 @@ fn mixed(tag: usize, worth: usize, sum: usize) -> usize
     ensures { λ r. ⌜ (r ≡ mix tag worth sum) × (r < 4294967296) ⌝ }
 {
     let joined = (tag * VALUES + worth + sum) % RANGE;
-    joined * (joined % VALUES + SPREAD) % RANGE
+    let spread = joined * (joined % VALUES + SPREAD) % RANGE;
+    spread / NODES * NODES + (sum + 1) % NODES
 }
 
 fn node_weight(tree: &[u8], classes: &[u8; 256], x: usize, sum: usize) -> usize

@@ -1,4 +1,4 @@
-use Prim.Native.Nat.{ℕ, _+_, _-_, _≤_, _<_, _%_}
+use Prim.Native.Nat.{ℕ, _+_, _-_, _≤_, _<_, _/_, _%_}
 use mathlib.Core.Path.{_≡_, ap}
 use native.Mathlib.Omega.{arith}
 use lib.ListN.{length}
@@ -42,7 +42,7 @@ rem-own c = c .before .before .before .before .before .pre .0
 
 -- src/lib.rt:35:21
 cast-bucket : tie.Need-cast-bucket Inv-loop μ-loop
-cast-bucket c = record { fits = let b = bucket-small (c .wide .result) (c .before .before .before .before .before .args .count) (c .before .before .before .before .before .pre .0) in let p = c .before .before .before .before .before .pre .1 in omega arith }
+cast-bucket c = record { fits = let b = bucket-small (c .wide .result / 4096) (c .before .before .before .before .before .args .count) (c .before .before .before .before .before .pre .0) in let p = c .before .before .before .before .before .pre .1 in omega arith }
 
 -- src/lib.rt:35:9
 mul-bucket : tie.Need-mul-bucket Inv-loop μ-loop
@@ -62,7 +62,7 @@ loop-less c = omega arith
 
 -- src/lib.rt:33:5
 loop-again : tie.Need-loop-again Inv-loop μ-loop
-loop-again c = (omega arith, sorted-more _ _ _ _ _ (let p = c .before .before .before .before .before .pre in omega arith) (c .before .before .before .loop .inv .1) (ap (λ (k : ℕ). k % c .before .before .before .before .before .args .count) (c .wide .ensures)))
+loop-again c = (omega arith, sorted-more _ _ _ _ _ (let p = c .before .before .before .before .before .pre in omega arith) (c .before .before .before .loop .inv .1) (ap (λ (k : ℕ). k / 4096 % c .before .before .before .before .before .args .count) (c .wide .ensures)))
 
 -- src/lib.rt:27:1
 returns : tie.Need-returns Inv-loop μ-loop

@@ -34,13 +34,13 @@ size-requires c κs = search needs
 
 -- src/lib.rt:26:9
 chain-requires : tie.Need-chain-requires
-chain-requires c κs = let e = c .size .ensures in let p = c .before .before .before .before .before .before .before .before .before .before .before .pre in (let s = p .some in omega arith, let f = p .few in omega arith, λ x h. let g = c .before .before .classify .ensures .inside x (omega arith) in omega arith)
+chain-requires c κs = let e = c .size .ensures in let p = c .before .before .before .before .before .before .before .before .before .before .before .pre in (let s = p .some in omega arith, let f = p .few in omega arith, λ x h. let g = c .before .before .classify .ensures .0 .inside x (omega arith) in omega arith)
 
 -- src/lib.rt:17:1
 returns : tie.Need-returns
 returns c = record {
   ready = record { tree = c .before .before .before .before .before .before .before .before .before .before .before .before .pre; links = c .before .before .before .before .before .before .before .before .before .before .link .ensures };
-  classed = c .before .before .before .classify .ensures;
+  classed = c .before .before .before .classify .ensures .0;
   chained = subst (λ (n : ℕ). Nexts (byClass n (c .before .before .before .classify .result)) (c .chain .result)) (c .before .size .ensures) (c .chain .ensures);
 }
 

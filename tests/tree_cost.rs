@@ -1,0 +1,299 @@
+//! Trees on which a careless tree test would take hours, each of 512 and of 4,096 nodes: the tests of keys on them must give 01's verdict and
+//! end. Times and their ratio are printed and held to nothing but a limit against hanging.
+//!
+//! tree_cost RUN FOLDER    RUN is tests/run_program.sh; FOLDER takes the files
+//!
+//! Labels are those of the bench examples. Each verdict is derived by hand beside its case.
+mod reference;
+
+use reference::examples::{bench_profile, question};
+use reference::paths::{ROOT, TEXT};
+use reference::records::{write_tree, Node, NONE, TREE_NODES};
+use std::fs;
+use std::path::Path;
+use std::process::{Child, Command, Stdio};
+use std::thread::sleep;
+use std::time::{Duration, Instant};
+
+const RUN: u8 = 2;
+const PORT: u8 = 3;
+const FRAME: u8 = 4;
+const STAMP: u8 = 5;
+const ID: u8 = 6;
+const SEQ: u8 = 7;
+
+const FEW_NODES: usize = 512;
+/// Nothing here should take more than seconds, even emulated on a busy machine.
+const LIMIT: Duration = Duration::from_secs(240);
+const PAUSE: Duration = Duration::from_millis(2);
+
+struct Table {
+    nodes: Vec<Node>,
+}
+
+impl Table {
+    fn new() -> Table {
+        Table { nodes: vec![Node { parent: NONE, label: ROOT, value: 0 }] }
+    }
+
+    fn add(&mut self, parent: usize, label: u8, value: usize) -> usize {
+        self.nodes.push(Node { parent: parent as u16, label, value: value as u16 });
+        self.nodes.len() - 1
+    }
+
+    fn element(&mut self, parent: usize, label: u8) -> usize {
+        self.add(parent, label, 0)
+    }
+
+    /// An element whose @id is equal everywhere and whose @seq is different everywhere.
+    fn dressed(&mut self, parent: usize, label: u8) -> usize {
+        let element = self.element(parent, label);
+        self.add(element, ID, 1);
+        self.add(element, SEQ, element);
+        element
+    }
+}
+
+/// An element and its two attributes.
+const DRESSED: usize = 3;
+
+/// Each element stands below the one before.
+fn chain(nodes: usize) -> Table {
+    let mut table = Table::new();
+    let mut last = 0;
+    for _ in 1..nodes {
+        last = table.element(last, RUN);
+    }
+    table
+}
+
+fn dressed_chain(nodes: usize) -> Table {
+    let mut table = Table::new();
+    let mut last = 0;
+    for _ in 0..(nodes - 1) / DRESSED {
+        last = table.dressed(last, RUN);
+    }
+    table
+}
+
+/// A chain with one leaf at each element.
+fn comb(nodes: usize, tooth: u8, different: bool) -> Table {
+    let mut table = Table::new();
+    let mut last = 0;
+    for i in 0..(nodes - 1) / 2 {
+        last = table.element(last, RUN);
+        table.add(last, tooth, if different { i } else { 0 });
+    }
+    table
+}
+
+fn dressed_comb(nodes: usize) -> Table {
+    let mut table = Table::new();
+    let mut last = 0;
+    for _ in 0..(nodes - 1) / (2 * DRESSED) {
+        last = table.dressed(last, RUN);
+        table.dressed(last, PORT);
+    }
+    table
+}
+
+/// Leaves below the root.
+fn star(nodes: usize, leaf: u8, different: bool) -> Table {
+    let mut table = Table::new();
+    for i in 1..nodes {
+        table.add(0, leaf, if different { i } else { 0 });
+    }
+    table
+}
+
+fn dressed_star(nodes: usize) -> Table {
+    let mut table = Table::new();
+    for _ in 0..(nodes - 1) / DRESSED {
+        table.dressed(0, PORT);
+    }
+    table
+}
+
+/// Two ports, each with many @id, all equal, and as many @seq, all different: many pairs of equal nodes belong to one pair of targets.
+fn twins(nodes: usize) -> Table {
+    let mut table = Table::new();
+    for _ in 0..2 {
+        let port = table.element(0, PORT);
+        for _ in 0..(nodes - 3) / 4 {
+            let different = table.nodes.len();
+            table.add(port, ID, 1);
+            table.add(port, SEQ, different);
+        }
+    }
+    table
+}
+
+/// A chain, and at its end many frames, each with one port: equal targets at the end of long runs of labels.
+fn broom(nodes: usize) -> Table {
+    let mut table = chain(nodes / 2);
+    let last = table.nodes.len() - 1;
+    for _ in 0..nodes / 4 {
+        let frame = table.element(last, FRAME);
+        table.element(frame, PORT);
+    }
+    table
+}
+
+const TEXTS: usize = 5;
+
+/// Chains that differ at their ends in the order of the texts alone: nodes with equally many nodes below them and, order apart, the same ones.
+fn orders(nodes: usize) -> Table {
+    const CHAINS: usize = 32;
+    let mut table = Table::new();
+    for number in 0..CHAINS {
+        let mut last = 0;
+        for _ in 0..(nodes - 1) / CHAINS - TEXTS {
+            last = table.element(last, RUN);
+        }
+        let mut left: Vec<usize> = (0..TEXTS).collect();
+        let mut choice = number;
+        while !left.is_empty() {
+            let text = left.remove(choice % left.len());
+            choice /= left.len() + 1;
+            table.add(last, TEXT, text);
+        }
+    }
+    table
+}
+
+const FRAMES: usize = 33;
+/// A port with its @id; its frames have two attributes, a stamp and the stamp's text.
+const PORT_NODES: usize = 2 + 5 * FRAMES;
+
+/// A segment of a bench campaign: at 4,096 nodes 24 ports. @id is a frame's own in the whole tree; @seq and stamp are its own in its port.
+fn segment(nodes: usize) -> Table {
+    let mut table = Table::new();
+    for number in 0..(nodes - 1) / PORT_NODES {
+        let port = table.element(0, PORT);
+        table.add(port, ID, number);
+        for seq in 0..FRAMES {
+            let frame = table.element(port, FRAME);
+            table.add(frame, ID, FRAMES * number + seq);
+            table.add(frame, SEQ, seq);
+            let stamp = table.element(frame, STAMP);
+            table.add(stamp, TEXT, seq);
+        }
+    }
+    table
+}
+
+/// Keys that every segment keeps: below one port any of these key paths tells two frames apart, and in the whole tree @id does.
+fn segment_keys() -> Vec<String> {
+    const OF_A_FRAME: [&str; 4] = ["@id", "@seq", "stamp", "stamp.#"];
+    const OF_A_PORT: [(&str, &str); 4] = [("port", "frame"), ("port", "_*.frame"), ("_*.port", "frame"), ("_*.port", "_*.frame")];
+    const OF_THE_TREE: [&str; 4] = ["(e,(port.frame,{@id}))", "(e,(_*.frame,{@id}))", "(_*,(frame,{@id}))", "(_*,(_*.frame,{@id}))"];
+    let mut keys: Vec<String> = OF_THE_TREE.iter().map(|key| key.to_string()).collect();
+    for (context, target) in OF_A_PORT {
+        for chosen in 1..1 << OF_A_FRAME.len() {
+            let held = |i: &usize| chosen >> i & 1 == 1;
+            let set: Vec<&str> = (0..OF_A_FRAME.len()).filter(held).map(|i| OF_A_FRAME[i]).collect();
+            keys.push(format!("({},({},{{{}}}))", context, target, set.join(",")));
+        }
+    }
+    keys
+}
+
+/// One tree tested against one key by `profile keep`, or against a whole profile and then the question by `checker tree`.
+struct Case {
+    name: &'static str,
+    profile: Vec<String>,
+    question: &'static str,
+    tree: fn(usize) -> Table,
+    wanted: &'static str,
+}
+
+const EVERYWHERE: &str = "(_*,(_*,{e}))";
+const EQUAL_AND_DIFFERENT: &str = "(_*,(_*,{@id,@seq}))";
+
+fn keep(name: &'static str, question: &'static str, tree: fn(usize) -> Table, wanted: &'static str) -> Case {
+    Case { name, profile: Vec::new(), question, tree, wanted }
+}
+
+fn cases() -> Vec<Case> {
+    let mut cases = vec![
+        // Frames of two ports agree, and no port reaches both; below one port @seq differs.
+        keep("segment, one key", "(port,(frame,{@seq}))", segment, "kept"),
+        // No two elements of a chain have equally many nodes below them.
+        keep("chain, {e}", EVERYWHERE, chain, "kept"),
+        // Two teeth without anything below them are equal, and the root reaches both.
+        keep("comb of equal teeth, {e}", EVERYWHERE, |n| comb(n, PORT, false), "broken"),
+        // No two teeth are equal, and no two elements have equally many nodes below them.
+        keep("comb of different teeth, {e}", EVERYWHERE, |n| comb(n, SEQ, true), "kept"),
+        keep("star of equal leaves, {e}", EVERYWHERE, |n| star(n, PORT, false), "broken"),
+        keep("star of different leaves, {e}", EVERYWHERE, |n| star(n, SEQ, true), "kept"),
+        // All agree on @id and no two on @seq; the root and the attributes themselves have neither.
+        keep("chain, equal and different", EQUAL_AND_DIFFERENT, dressed_chain, "kept"),
+        keep("comb, equal and different", EQUAL_AND_DIFFERENT, dressed_comb, "kept"),
+        keep("star, equal and different", EQUAL_AND_DIFFERENT, dressed_star, "kept"),
+        // The two ports have no @seq in common.
+        keep("twins, equal and different", "(e,(port,{@id,@seq}))", twins, "kept"),
+        // All ports are equal, and each has a frame of its own as its only context.
+        keep("broom, contexts apart", "(_*.run.frame,(_*.port,{e}))", broom, "kept"),
+        // No port is reached: no run of a target stands below a stamp.
+        keep("broom, no target", "(_*,(_*.stamp._*.port,{e}))", broom, "kept"),
+        // "in table order": no two chains have their texts in one order, and no two elements of a chain have equally many nodes below them.
+        keep("chains of other orders, {e}", "(_*,(_*.run,{e}))", orders, "kept"),
+    ];
+    // The segment keeps all 64, and breaks the question: @seq 0 stands in two ports.
+    cases.push(Case {
+        name: "segment, 64 keys",
+        profile: segment_keys(),
+        question: "(e,(port.frame,{@seq}))",
+        tree: segment,
+        wanted: "accepted",
+    });
+    cases
+}
+
+fn wait(child: &mut Child, name: &str) {
+    let start = Instant::now();
+    while child.try_wait().expect("a child can be waited for").is_none() {
+        if LIMIT < start.elapsed() {
+            child.kill().expect("a child can be stopped");
+            panic!("{}: no answer in {} s", name, LIMIT.as_secs());
+        }
+        sleep(PAUSE);
+    }
+}
+
+/// The seconds that the program took. Its answer is one line, so it never waits for a reader.
+fn run(case: &Case, nodes: usize, program: &str, folder: &Path) -> f64 {
+    let table = (case.tree)(nodes);
+    assert!(table.nodes.len() <= TREE_NODES, "{}: too many nodes", case.name);
+    let keys: Vec<&str> = case.profile.iter().map(String::as_str).collect();
+    let put = |file: &str, bytes: &[u8]| fs::write(folder.join(file), bytes).expect("the folder takes files");
+    put("profile", &bench_profile(&keys));
+    put("question", &question(case.question));
+    put("tree", &write_tree(&table.nodes));
+    let command = if keys.is_empty() { ["profile", "keep"] } else { ["checker", "tree"] };
+    let start = Instant::now();
+    let mut child = Command::new(program)
+        .args(command)
+        .args(["profile", "question", "tree"].map(|file| folder.join(file)))
+        .stdout(Stdio::piped())
+        .spawn()
+        .expect("the program starts");
+    wait(&mut child, case.name);
+    let seconds = start.elapsed().as_secs_f64();
+    let output = child.wait_with_output().expect("the program's answer can be read");
+    let answer = String::from_utf8_lossy(&output.stdout).trim_end().to_string();
+    assert_eq!(answer, case.wanted, "{}, {} nodes", case.name, table.nodes.len());
+    seconds
+}
+
+fn main() {
+    let words: Vec<String> = std::env::args().collect();
+    let [_, program, folder] = &words[..] else { panic!("usage: tree_cost RUN FOLDER") };
+    let folder = Path::new(folder);
+    println!("{:<34} {:>9} {:>9} {:>6}", "seconds for nodes", FEW_NODES, TREE_NODES, "ratio");
+    for case in cases() {
+        let few = run(&case, FEW_NODES, program, folder);
+        let many = run(&case, TREE_NODES, program, folder);
+        println!("{:<34} {:>9.3} {:>9.3} {:>6.1}", case.name, few, many, many / few);
+    }
+}
