@@ -3,7 +3,17 @@
 use libc::STDIN_FILENO;
 ghost use Prim.Native.Nat.{_+_, _≤_, _<_};
 
-// Operation, number, room and three lengths.
+// Where each number of the head stands; the operation stands at 0.
+const NUMBER: usize = 1;
+
+const ROOM: usize = 5;
+
+const FIRST_LENGTH: usize = 9;
+
+const SECOND_LENGTH: usize = 13;
+
+const THIRD_LENGTH: usize = 17;
+
 const HEAD_BYTES: usize = 21;
 
 // A case without its inputs' bytes: the first input begins at 0, and `end` is where the third ends.
@@ -40,15 +50,15 @@ fn number_at(head: &[u8; HEAD_BYTES], at: usize) -> usize
 }
 
 fn case_of(head: &[u8; HEAD_BYTES]) -> Case {
-    let second = number_at(head, 9);
-    let third = second + number_at(head, 13);
+    let second = number_at(head, FIRST_LENGTH);
+    let third = second + number_at(head, SECOND_LENGTH);
     Case {
         operation: head[0],
-        number: number_at(head, 1),
-        room: number_at(head, 5),
+        number: number_at(head, NUMBER),
+        room: number_at(head, ROOM),
         second,
         third,
-        end: third + number_at(head, 17),
+        end: third + number_at(head, THIRD_LENGTH),
     }
 }
 
