@@ -12,7 +12,7 @@ use Rattle.shapes.specs.Parts.{pathsEnd, pathsOf}
 use Rattle.shapes.specs.KeyPaths.{AtPath}
 use Rattle.line_writing.specs.LineParts.{LineFits}
 use Rattle.set_writing.specs.Encoded.{SetIn}
-use Rattle.set_writing.specs.Fronts.{FrontFits, Fronted}
+use Rattle.set_writing.specs.Fronts.{Fronted}
 use Rattle.theory_derive.specs.Written.{keyOf, twoLine, oneLine}
 use Rattle.step_writing.specs.Fits.{KeyBody, body-set}
 use Rattle.step_writing.specs.Lines.{WroteLines, lines-is}
@@ -77,12 +77,6 @@ part-fits {line = line} {from = from} {to} (r, p, s) =
 
 pub rest-short : {out line : List ℕ} {at from to : ℕ} → PartRoom out at line from to → length (between to (length line) line) ≤ 24
 rest-short {line = line} {to = to} p = let e = length-take (length line - to) (drop to line) in omega arith
-
-pub front-fits : {buffer line set : List ℕ} {to chain many : ℕ} → FrontRoom line to chain → UnitedBytes many set → 256 ≤ length buffer
-    → FrontFits buffer (between to chain line) many set
-front-fits {line = line} {to = to} {chain} f u b =
-    let e = length-take (chain - to) (drop to line) in
-    record { ends = u .ends; front-short = omega arith; paths-short = omega arith; room = omega arith }
 
 pub body-fits : {body bytes : List ℕ} {count : ℕ} → KeyBody body → AtPath (keyIn body .paths) 0 bytes → count ≡ length (keyIn body .paths)
     → SetFits count bytes
