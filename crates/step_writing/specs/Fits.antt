@@ -1,12 +1,12 @@
 -- What the writers of a step ask: the sizes of document 01 for keys, and room for a line.
-use Prim.Native.Nat.{ℕ, zero, suc, _+_, _-_, _*_, _<_, _≤_}
-use mathlib.Core.Path.{_≡_, refl, sym, _∙_, ap, ap₂, subst}
-use mathlib.Core.Bool.{Bool, true, false}
-use mathlib.Core.List.{List, [], _∷_, _++_, map, flatten}
+use Prim.Native.Nat.{ℕ, _+_, _-_, _<_, _≤_}
+use mathlib.Core.Path.{_≡_, refl, sym, _∙_, ap}
+use mathlib.Core.Bool.{true}
+use mathlib.Core.List.{List, map, flatten}
 use native.Mathlib.Omega.{arith}
 use lib.ListN.{length}
 use Rattle.meaning.specs.Limits.{inProfile}
-use Rattle.meaning.specs.Lists.{Each, end, also}
+use Rattle.meaning.specs.Lists.{Each}
 use Rattle.meaning.specs.Paths.{Label}
 use Rattle.meaning.specs.Keys.{Key}
 use Rattle.meaning.specs.Records.{readKey, keyIn, isSome, pathBytes}

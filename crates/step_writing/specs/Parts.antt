@@ -1,21 +1,20 @@
 -- Keys whose context and target are read off the asked line, "all others are read off the asked key's lines" (ARGUMENT §5), and the small
 -- sets that they are written with.
-use Prim.Native.Nat.{ℕ, zero, suc, _+_, _-_, _*_, _<_, _≤_}
-use mathlib.Core.Path.{_≡_, refl, sym, _∙_, ap}
-use mathlib.Core.Bool.{Bool, true, false}
+use Prim.Native.Nat.{ℕ, suc, _+_, _-_, _<_, _≤_}
+use mathlib.Core.Path.{_≡_, ap}
+use mathlib.Core.Bool.{true}
 use mathlib.Core.List.{List, [], _∷_}
 use native.Mathlib.Omega.{arith}
-use lib.ListN.{length, take, drop, length-take, length-drop}
+use lib.ListN.{length, take, drop, length-take}
 use Rattle.meaning.specs.Keys.{Key}
-use Rattle.meaning.specs.Records.{keyIn, pathBytes}
+use Rattle.meaning.specs.Records.{keyIn}
 use Rattle.shapes.specs.Parts.{pathsEnd, pathsOf}
 use Rattle.shapes.specs.KeyPaths.{AtPath}
-use Rattle.writing.specs.Wrote.{wrote-part}
-use Rattle.line_writing.specs.LineParts.{LineFits, Sized}
+use Rattle.line_writing.specs.LineParts.{LineFits}
 use Rattle.set_writing.specs.Encoded.{SetIn}
-use Rattle.set_writing.specs.Fronts.{FrontFits, Fronted, inFront}
+use Rattle.set_writing.specs.Fronts.{Fronted}
 use Rattle.theory_derive.specs.Written.{keyOf, twoLine, oneLine}
-use Rattle.step_writing.specs.Fits.{KeyBody, BodySet, body-set}
+use Rattle.step_writing.specs.Fits.{KeyBody, body-set}
 use Rattle.step_writing.specs.Lines.{WroteLines, lines-is}
 
 -- the symbols from index a up to b
@@ -76,17 +75,8 @@ part-fits {line = line} {from = from} {to} (r, p, s) =
       ends = s .ends;
     }
 
-pub between-length : (line : List ℕ) (a b : ℕ) → a ≤ b → b ≤ length line → b - a ≡ length (between a b line)
-between-length line a b h k = let e = length-take (b - a) (drop a line) in let d = length-drop a line in omega arith
-
 pub rest-short : {out line : List ℕ} {at from to : ℕ} → PartRoom out at line from to → length (between to (length line) line) ≤ 24
 rest-short {line = line} {to = to} p = let e = length-take (length line - to) (drop to line) in omega arith
-
-pub front-fits : {buffer line set : List ℕ} {to chain many : ℕ} → FrontRoom line to chain → UnitedBytes many set → 256 ≤ length buffer
-    → FrontFits buffer (between to chain line) many set
-front-fits {line = line} {to = to} {chain} f u b =
-    let e = length-take (chain - to) (drop to line) in
-    record { ends = u .ends; front-short = omega arith; paths-short = omega arith; room = omega arith }
 
 pub body-fits : {body bytes : List ℕ} {count : ℕ} → KeyBody body → AtPath (keyIn body .paths) 0 bytes → count ≡ length (keyIn body .paths)
     → SetFits count bytes

@@ -1,27 +1,25 @@
 -- One law for each line that is written with a set made for it.
-use Prim.Native.Nat.{ℕ, zero, suc, _+_, _-_, _*_, _<_, _≤_}
-use mathlib.Core.Path.{_≡_, refl, sym, _∙_, ap, ap₂, subst}
-use mathlib.Core.Bool.{Bool, true, false, cond, _||_}
-use mathlib.Core.List.{List, [], _∷_, _++_, map, flatten, append-nil}
+use Prim.Native.Nat.{ℕ, suc, _+_, _-_, _<_, _≤_}
+use mathlib.Core.Path.{_≡_, refl, sym, _∙_, ap, subst}
+use mathlib.Core.Bool.{Bool, true, false, _||_}
+use mathlib.Core.List.{List, [], _∷_, flatten, append-nil}
 use native.Mathlib.Omega.{arith}
-use lib.Dec.{ltb, eqb}
-use lib.ListN.{length, take, drop}
+use lib.ListN.{length, take}
 use borrow.Author.Tests.{le-ltb, ne-eqb}
 use Rattle.meaning.specs.Lists.{any, isEmpty, same, lower, before}
 use Rattle.meaning.specs.Rules.{withEmpty}
-use Rattle.meaning.specs.Keys.{Key}
-use Rattle.meaning.specs.Records.{readKey, keyIn, isSome, pathBytes, lineBytes}
-use Rattle.shapes.specs.Parts.{holdsPath, leadPath, afterPath, pathsEnd, pathsOf}
+use Rattle.meaning.specs.Records.{keyIn, pathBytes, lineBytes}
+use Rattle.shapes.specs.Parts.{leadPath, afterPath, pathsEnd, pathsOf}
 use Rattle.shapes.specs.KeyPaths.{AtPath}
 use Rattle.writing.specs.Wrote.{Wrote, wrote-part}
 use Rattle.line_writing.specs.LineParts.{LineFits, WroteLine, Sized}
 use Rattle.set_writing.specs.Encoded.{SetIn, set-in, bytesOf}
-use Rattle.set_writing.specs.Places.{some-left, rest-left, paths-left}
+use Rattle.set_writing.specs.Places.{rest-left, paths-left}
 use Rattle.set_writing.specs.Inserts.{InsertFits, Inserted}
 use Rattle.theory_derive.specs.Sets.{insert}
 use Rattle.theory_derive.specs.Spots.{holdsEmpty}
 use Rattle.theory_derive.specs.Written.{keyOf, twoLine, oneLine}
-use Rattle.step_writing.specs.Fits.{KeyBody, BodySet, body-set, LineRoom, OfKeyFits}
+use Rattle.step_writing.specs.Fits.{KeyBody, body-set, OfKeyFits}
 use Rattle.step_writing.specs.Lines.{WroteLines, line-one}
 use Rattle.step_writing.specs.Parts.{between, PartRoom, SetFits, SmallSet, rest-short, set-in-fits, of-body}
 

@@ -6,7 +6,7 @@ use native.Mathlib.Omega.{arith}
 use lib.ListN.{length, take, length-take}
 use Rattle.meaning.specs.Rules.{Line}
 use Rattle.meaning.specs.Records.{keyIn}
-use Rattle.step_writing.specs.Fits.{KeyBody, LineRoom, OfKeyFits}
+use Rattle.step_writing.specs.Fits.{KeyBody, OfKeyFits}
 use Rattle.step_writing.specs.Lines.{WroteLines}
 
 pub record OpeningFits (out : List ℕ) (at lines : ℕ) (line cited : List ℕ) (node spot : ℕ) : Type 0 where

@@ -1,10 +1,10 @@
 -- The lines of a step over the bytes that the code has; theory_derive's lines are the same (Derived).
-use Prim.Native.Nat.{ℕ, zero, suc, _+_, _-_, _*_, _<_, _≤_}
-use mathlib.Core.Path.{_≡_, refl, sym, _∙_, ap, ap₂, subst}
+use Prim.Native.Nat.{ℕ, _+_, _-_, _≤_}
+use mathlib.Core.Path.{_≡_, sym, _∙_, ap, ap₂, subst}
 use mathlib.Core.Bool.{Bool, true, false, cond}
 use mathlib.Core.List.{List, [], _∷_, _++_, map}
 use native.Mathlib.Omega.{arith}
-use lib.ListN.{length, take, drop, length-take}
+use lib.ListN.{length, take, drop}
 use Rattle.meaning.specs.Rules.{Line, withEmpty}
 use Rattle.meaning.specs.Keys.{Key}
 use Rattle.meaning.specs.Records.{keyIn}
@@ -17,7 +17,7 @@ use Rattle.set_writing.specs.Fronts.{inFront}
 use Rattle.theory_derive.specs.Sets.{insert, unite}
 use Rattle.theory_derive.specs.Spots.{holdsEmpty}
 use Rattle.theory_derive.specs.Written.{keyOf, twoLine, oneLine}
-use Rattle.step_writing.specs.Fits.{KeyBody, BodySet, body-set}
+use Rattle.step_writing.specs.Fits.{KeyBody, body-set}
 use Rattle.step_writing.specs.Lines.{WroteLines, lines-more, lines-is}
 pub use Rattle.step_writing.specs.Parts.{between}
 use Rattle.step_writing.specs.Parts.{keyAlong, SmallSet}

@@ -6,8 +6,6 @@ use crate::single::write_along;
 use crate::single::write_one;
 use crate::single::write_pair;
 use crate::single::write_with_empty;
-ghost use mathlib.Core.List.{List};
-ghost use Prim.Native.Nat.{ℕ};
 ghost use Rattle.meaning.specs.Records.{keyIn};
 ghost use Rattle.step_writing.specs.Fits.{KeyBody};
 ghost use Rattle.step_writing.specs.Lines.{WroteLines};

@@ -2,49 +2,34 @@ use Rattle.step_writing.specs.StepLines.{empty-wrote}
 use borrow.Author.Needs.{needs}
 use Rattle.step_writing.proofs.branch.write_empty.Statement.{statement}
 use Rattle.step_writing.proofs.branch.write_empty.Tie as tie
-use Rattle.step_writing.proofs.branch.write_empty.Reads as reads
-use Rattle.step_writing.proofs.branch.write_empty.Lts as lts
-use Rattle.step_writing.proofs.single.write_along.Reads as write-along-reads
-use Rattle.step_writing.proofs.single.write_pair.Reads as write-pair-reads
-use Rattle.step_writing.proofs.single.write_with_empty.Reads as write-with-empty-reads
 
--- src/branch.rt:49:44
 add-write-with-empty : tie.Need-add-write-with-empty
 add-write-with-empty c = search needs
 
--- src/branch.rt:49:9
 write-with-empty-requires : tie.Need-write-with-empty-requires
 write-with-empty-requires c κs = search needs
 
--- src/branch.rt:50:57
 add-write-pair : tie.Need-add-write-pair
 add-write-pair c = search needs
 
--- src/branch.rt:50:9
 write-pair-requires : tie.Need-write-pair-requires
 write-pair-requires c κs = search needs
 
--- src/branch.rt:51:59
 add-write-pair-2 : tie.Need-add-write-pair-2
 add-write-pair-2 c = search needs
 
--- src/branch.rt:51:9
 write-pair-requires-2 : tie.Need-write-pair-requires-2
 write-pair-requires-2 c κs = search needs
 
--- src/branch.rt:52:40
 add-write-along : tie.Need-add-write-along
 add-write-along c = search needs
 
--- src/branch.rt:52:5
 write-along-requires : tie.Need-write-along-requires
 write-along-requires c κs = search needs
 
--- src/branch.rt:35:1
 same-length : tie.Need-same-length
 same-length c = search needs
 
--- src/branch.rt:35:1
 returns : tie.Need-returns
 returns c =
     let along = c .before .before in

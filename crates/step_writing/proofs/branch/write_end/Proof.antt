@@ -2,32 +2,22 @@ use Rattle.step_writing.specs.StepLines.{end-wrote}
 use borrow.Author.Needs.{needs}
 use Rattle.step_writing.proofs.branch.write_end.Statement.{statement}
 use Rattle.step_writing.proofs.branch.write_end.Tie as tie
-use Rattle.step_writing.proofs.branch.write_end.Reads as reads
-use Rattle.step_writing.proofs.branch.write_end.Lts as lts
-use Rattle.step_writing.proofs.single.write_along.Reads as write-along-reads
-use Rattle.step_writing.proofs.single.write_one.Reads as write-one-reads
 
--- src/branch.rt:30:37
 add-write-one : tie.Need-add-write-one
 add-write-one c = search needs
 
--- src/branch.rt:30:9
 write-one-requires : tie.Need-write-one-requires
 write-one-requires c κs = search needs
 
--- src/branch.rt:31:40
 add-write-along : tie.Need-add-write-along
 add-write-along c = search needs
 
--- src/branch.rt:31:5
 write-along-requires : tie.Need-write-along-requires
 write-along-requires c κs = search needs
 
--- src/branch.rt:18:1
 same-length : tie.Need-same-length
 same-length c = search needs
 
--- src/branch.rt:18:1
 returns : tie.Need-returns
 returns c = search (end-wrote)
 

@@ -4,46 +4,31 @@ use Rattle.step_writing.specs.Parts.{united-fits}
 use borrow.Author.Needs.{needs}
 use Rattle.step_writing.proofs.chain.write_chain_lines.Statement.{statement}
 use Rattle.step_writing.proofs.chain.write_chain_lines.Tie as tie
-use Rattle.step_writing.proofs.chain.write_chain_lines.Reads as reads
-use Rattle.step_writing.proofs.chain.write_chain_lines.Lts as lts
-use Rattle.step_writing.proofs.chain.write_meeting.Reads as write-meeting-reads
-use Rattle.step_writing.proofs.single.holds_empty.Reads as holds-empty-reads
-use Rattle.step_writing.proofs.single.write_along.Reads as write-along-reads
-use Rattle.step_writing.proofs.single.write_part.Reads as write-part-reads
 
--- src/chain.rt:111:9
 write-meeting-requires : tie.Need-write-meeting-requires
 write-meeting-requires c κs = search (meeting-fits)
 
--- src/chain.rt:112:51
 add-write-part : tie.Need-add-write-part
 add-write-part c = search needs
 
--- src/chain.rt:112:62
 add-write-part-2 : tie.Need-add-write-part-2
 add-write-part-2 c = search needs
 
--- src/chain.rt:112:9
 write-part-requires : tie.Need-write-part-requires
 write-part-requires c κs = search (needs, united-fits)
 
--- src/chain.rt:113:8
 holds-empty-requires : tie.Need-holds-empty-requires
 holds-empty-requires c κs = search needs
 
--- src/chain.rt:114:55
 add-write-along : tie.Need-add-write-along
 add-write-along c = search needs
 
--- src/chain.rt:114:9
 write-along-requires : tie.Need-write-along-requires
 write-along-requires c κs = search needs
 
--- src/chain.rt:114:9
 same-length : tie.Need-same-length
 same-length c = search needs
 
--- src/chain.rt:114:9
 returns : tie.Need-returns
 returns c =
     let along = c .before .before in
@@ -52,11 +37,9 @@ returns c =
     let meeting = joined .before .before .before .before in
     chain-wrote-empty _ _ _ _ _ _ _ (along .write-along .ensures) (joined .write-part .ensures) (meeting .write-meeting .ensures) (test .before .holds-empty .ensures) (test .if1 .taken)
 
--- src/chain.rt:96:1
 same-length-2 : tie.Need-same-length-2
 same-length-2 c = search needs
 
--- src/chain.rt:96:1
 returns-2 : tie.Need-returns-2
 returns-2 c =
     let joined = c .before .before .before .before in

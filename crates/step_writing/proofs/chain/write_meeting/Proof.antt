@@ -4,41 +4,28 @@ use Rattle.step_writing.specs.Parts.{united-fits}
 use borrow.Author.Needs.{needs}
 use Rattle.step_writing.proofs.chain.write_meeting.Statement.{statement}
 use Rattle.step_writing.proofs.chain.write_meeting.Tie as tie
-use Rattle.step_writing.proofs.chain.write_meeting.Reads as reads
-use Rattle.step_writing.proofs.chain.write_meeting.Lts as lts
-use Rattle.step_writing.proofs.single.write_along.Reads as write-along-reads
-use Rattle.step_writing.proofs.single.write_fronted.Reads as write-fronted-reads
-use Rattle.step_writing.proofs.single.write_part.Reads as write-part-reads
 
--- src/chain.rt:90:41
 add-write-fronted : tie.Need-add-write-fronted
 add-write-fronted c = search needs
 
--- src/chain.rt:90:9
 write-fronted-requires : tie.Need-write-fronted-requires
 write-fronted-requires c κs = search needs
 
--- src/chain.rt:91:58
 sub-write-along : tie.Need-sub-write-along
 sub-write-along c = search needs
 
--- src/chain.rt:91:9
 write-along-requires : tie.Need-write-along-requires
 write-along-requires c κs = search needs
 
--- src/chain.rt:92:38
 add-write-part : tie.Need-add-write-part
 add-write-part c = search needs
 
--- src/chain.rt:92:5
 write-part-requires : tie.Need-write-part-requires
 write-part-requires c κs = search (needs, united-fits)
 
--- src/chain.rt:75:1
 same-length : tie.Need-same-length
 same-length c = search needs
 
--- src/chain.rt:75:1
 returns : tie.Need-returns
 unfolding oneLine twoLine
 returns c =

@@ -6,46 +6,31 @@ use native.Mathlib.Omega.{arith}
 use borrow.Author.Needs.{needs}
 use Rattle.step_writing.proofs.chain.write_opening.Statement.{statement}
 use Rattle.step_writing.proofs.chain.write_opening.Tie as tie
-use Rattle.step_writing.proofs.chain.write_opening.Reads as reads
-use Rattle.step_writing.proofs.chain.write_opening.Lts as lts
-use Rattle.shapes.proofs.keys.context.Reads as context-reads
-use Rattle.shapes.proofs.keys.target.Reads as target-reads
-use Rattle.step_writing.proofs.single.write_along.Reads as write-along-reads
-use Rattle.step_writing.proofs.single.write_of_key.Reads as write-of-key-reads
 
--- src/chain.rt:50:9
 target-requires : tie.Need-target-requires
 target-requires c κs = search needs
 
--- src/chain.rt:51:52
 context-requires : tie.Need-context-requires
 context-requires c κs = search needs
 
--- src/chain.rt:51:9
 write-of-key-requires : tie.Need-write-of-key-requires
 write-of-key-requires c κs = search (cited-fits)
 
--- src/chain.rt:52:64
 slice-aggregate-write-of-key : tie.Need-slice-aggregate-write-of-key
 slice-aggregate-write-of-key c = sym (length-take-le _ _ (omega arith))
 
--- src/chain.rt:52:9
 write-of-key-requires-2 : tie.Need-write-of-key-requires-2
 write-of-key-requires-2 c κs = search (narrowed-fits)
 
--- src/chain.rt:53:42
 add-write-along : tie.Need-add-write-along
 add-write-along c = search needs
 
--- src/chain.rt:53:5
 write-along-requires : tie.Need-write-along-requires
 write-along-requires c κs = search needs
 
--- src/chain.rt:37:1
 same-length : tie.Need-same-length
 same-length c = search needs
 
--- src/chain.rt:37:1
 returns : tie.Need-returns
 returns c =
     let along = c .before .before in

@@ -1,18 +1,10 @@
-use borrow.Author.Needs.{needs}
 use native.Mathlib.Omega.{arith}
 use Rattle.step_writing.specs.Singles.{EmptyFrom, empty-start, empty-found, empty-next, empty-end}
 use Rattle.set_writing.specs.Places.{some-left}
 use Rattle.theory_derive.specs.Spots.{holdsEmpty}
 use Rattle.meaning.specs.Records.{keyIn}
-use denote.Ref.{now}
 use Rattle.step_writing.proofs.single.holds_empty.Statement.{statement}
 use Rattle.step_writing.proofs.single.holds_empty.Tie as tie
-use Rattle.step_writing.proofs.single.holds_empty.Reads as reads
-use Rattle.step_writing.proofs.single.holds_empty.Lts as lts
-use Rattle.shapes.proofs.bodies.after_path.Reads as after-path-reads
-use Rattle.shapes.proofs.bodies.lead_path.Reads as lead-path-reads
-use Rattle.shapes.proofs.keys.count.Reads as count-reads
-use Rattle.shapes.proofs.keys.paths.Reads as paths-reads
 
 abbrev Inv-loop : tie.InvT-loop
 Inv-loop body rest₀ left₀ rest left = EmptyFrom left rest (holdsEmpty (keyIn body))
@@ -20,43 +12,33 @@ Inv-loop body rest₀ left₀ rest left = EmptyFrom left rest (holdsEmpty (keyIn
 abbrev μ-loop : tie.MeasureT-loop
 μ-loop body rest₀ left₀ rest left = left
 
--- src/single.rt:131:9
 paths-requires : tie.Need-paths-requires Inv-loop μ-loop
 paths-requires c κs = c .before .pre
 
--- src/single.rt:132:9
 count-requires : tie.Need-count-requires Inv-loop μ-loop
 count-requires c κs = c .before .before .pre
 
--- src/single.rt:133:5
 loop-holds : tie.Need-loop-holds Inv-loop μ-loop
 loop-holds c = empty-start _ (c .before .paths .ensures) (c .count .ensures .0)
 
--- src/single.rt:134:12
 lead-path-requires : tie.Need-lead-path-requires Inv-loop μ-loop
 lead-path-requires c κs = some-left _ _ (c .loop-test .taken) (c .before .loop .inv .ends)
 
--- src/single.rt:135:13
 returns : tie.Need-returns Inv-loop μ-loop
 returns c = empty-found (c .before .before .before .loop .inv) (c .before .before .loop-test .taken) (c .before .lead-path .ensures) (c .if1 .taken)
 
--- src/single.rt:137:13
 after-path-requires : tie.Need-after-path-requires Inv-loop μ-loop
 after-path-requires c κs = some-left _ _ (c .before .before .loop-test .taken) (c .before .before .before .loop .inv .ends)
 
--- src/single.rt:139:9
 sub-left : tie.Need-sub-left Inv-loop μ-loop
 sub-left c = omega arith
 
--- src/single.rt:133:5
 loop-less : tie.Need-loop-less Inv-loop μ-loop
 loop-less c = omega arith
 
--- src/single.rt:133:5
 loop-again : tie.Need-loop-again Inv-loop μ-loop
 loop-again c = empty-next (c .before .before .before .before .loop .inv) (c .before .before .before .loop-test .taken) (c .before .before .lead-path .ensures) (c .before .if1 .left) (c .after-path .ensures)
 
--- src/single.rt:127:1
 returns-2 : tie.Need-returns-2 Inv-loop μ-loop
 returns-2 c = empty-end (c .before .loop .inv) (c .loop-test .left)
 

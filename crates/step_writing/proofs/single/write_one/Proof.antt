@@ -6,48 +6,34 @@ use native.Mathlib.Omega.{arith}
 use borrow.Author.Needs.{needs}
 use Rattle.step_writing.proofs.single.write_one.Statement.{statement}
 use Rattle.step_writing.proofs.single.write_one.Tie as tie
-use Rattle.step_writing.proofs.single.write_one.Reads as reads
-use Rattle.step_writing.proofs.single.write_one.Lts as lts
-use Rattle.line_writing.proofs.put_path.Reads as put-path-reads
-use Rattle.step_writing.proofs.single.write_part.Reads as write-part-reads
 
--- src/single.rt:134:25
 slice-aggregate-put-path : tie.Need-slice-aggregate-put-path
 slice-aggregate-put-path c = search needs
 
--- src/single.rt:134:38
 sub-put-path : tie.Need-sub-put-path
 sub-put-path c = search needs
 
--- src/single.rt:134:38
 part-put-path-start : tie.Need-part-put-path-start
 part-put-path-start c = search needs
 
--- src/single.rt:134:38
 part-put-path-end : tie.Need-part-put-path-end
 part-put-path-end c = search needs
 
--- src/single.rt:134:9
 put-path-requires : tie.Need-put-path-requires
 put-path-requires c κs = search needs
 
--- src/single.rt:135:72
 array-share-prefix-one : tie.Need-array-share-prefix-one
 array-share-prefix-one c = search needs
 
--- src/single.rt:135:72
 slice-aggregate-write-part : tie.Need-slice-aggregate-write-part
 slice-aggregate-write-part c = sym (length-take-le _ _ (omega arith))
 
--- src/single.rt:135:5
 write-part-requires : tie.Need-write-part-requires
 write-part-requires c κs = search (needs, one-fits)
 
--- src/single.rt:129:1
 same-length : tie.Need-same-length
 same-length c = search needs
 
--- src/single.rt:129:1
 returns : tie.Need-returns
 returns c = search (of-set, one-in)
 

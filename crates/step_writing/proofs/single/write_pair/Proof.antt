@@ -6,49 +6,34 @@ use native.Mathlib.Omega.{arith}
 use borrow.Author.Needs.{needs}
 use Rattle.step_writing.proofs.single.write_pair.Statement.{statement}
 use Rattle.step_writing.proofs.single.write_pair.Tie as tie
-use Rattle.step_writing.proofs.single.write_pair.Reads as reads
-use Rattle.step_writing.proofs.single.write_pair.Lts as lts
-use Rattle.line_writing.proofs.put_number.Reads as put-number-reads
-use Rattle.set_writing.proofs.insert_path.Reads as insert-path-reads
-use Rattle.step_writing.proofs.single.write_part.Reads as write-part-reads
 
--- src/single.rt:181:29
 slice-aggregate-put-number : tie.Need-slice-aggregate-put-number
 slice-aggregate-put-number c = search needs
 
--- src/single.rt:181:9
 put-number-requires : tie.Need-put-number-requires
 put-number-requires c κs = search needs
 
--- src/single.rt:182:27
 slice-aggregate-insert-path : tie.Need-slice-aggregate-insert-path
 slice-aggregate-insert-path c = search needs
 
--- src/single.rt:182:51
 sub-insert-path : tie.Need-sub-insert-path
 sub-insert-path c = search needs
 
--- src/single.rt:182:51
 part-insert-path-start : tie.Need-part-insert-path-start
 part-insert-path-start c = search needs
 
--- src/single.rt:182:51
 part-insert-path-end : tie.Need-part-insert-path-end
 part-insert-path-end c = search needs
 
--- src/single.rt:182:9
 insert-path-requires : tie.Need-insert-path-requires
 insert-path-requires c κs = search (needs, pair-fits)
 
--- src/single.rt:195:9
 array-share-prefix-buffer : tie.Need-array-share-prefix-buffer
 array-share-prefix-buffer c = search needs
 
--- src/single.rt:195:9
 slice-aggregate-write-part : tie.Need-slice-aggregate-write-part
 slice-aggregate-write-part c = sym (length-take-le _ _ (omega arith))
 
--- src/single.rt:185:5
 write-part-requires : tie.Need-write-part-requires
 write-part-requires c κs =
     let made = c .before .before .before in
@@ -57,11 +42,9 @@ write-part-requires c κs =
     let set = pair-in (start .pre .1) (number .put-number .ensures) (made .insert-path .ensures) in
     (start .pre .0, start .pre .1, small-fits set)
 
--- src/single.rt:168:1
 same-length : tie.Need-same-length
 same-length c = search needs
 
--- src/single.rt:168:1
 returns : tie.Need-returns
 returns c =
     let made = c .before .before .before .before .before .before in

@@ -6,35 +6,25 @@ use native.Mathlib.Omega.{arith}
 use borrow.Author.Needs.{needs}
 use Rattle.step_writing.proofs.single.write_part.Statement.{statement}
 use Rattle.step_writing.proofs.single.write_part.Tie as tie
-use Rattle.step_writing.proofs.single.write_part.Reads as reads
-use Rattle.step_writing.proofs.single.write_part.Lts as lts
-use Rattle.line_writing.proofs.write_line.Reads as write-line-reads
 
--- src/single.rt:103:9
 slice-aggregate-write-line : tie.Need-slice-aggregate-write-line
 slice-aggregate-write-line c = sym (length-take-le _ _ (omega arith))
 
--- src/single.rt:104:9
 sub-write-line : tie.Need-sub-write-line
 sub-write-line c = search needs
 
--- src/single.rt:104:9
 part-write-line-start : tie.Need-part-write-line-start
 part-write-line-start c = search needs
 
--- src/single.rt:104:9
 part-write-line-end : tie.Need-part-write-line-end
 part-write-line-end c = search needs
 
--- src/single.rt:97:5
 write-line-requires : tie.Need-write-line-requires
 write-line-requires c κs = search (part-fits)
 
--- src/single.rt:82:1
 same-length : tie.Need-same-length
 same-length c = search needs
 
--- src/single.rt:82:1
 returns : tie.Need-returns
 returns c = search (line-one)
 
