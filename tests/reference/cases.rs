@@ -212,8 +212,9 @@ fn path_limits(all: &mut Vec<Case>) {
     }
 }
 
-/// A chain, a star of attributes, a comb: each of the given number of nodes. The comb's attributes are
-/// equal by fours: what a tree test costs grows with the pairs of equal nodes.
+const COMB_VALUES: usize = 7;
+
+/// A chain, a star of attributes, a comb with many equal attributes: each of the given number of nodes.
 fn large_trees(size: usize) -> Vec<Vec<Node>> {
     let root = Node { parent: NONE, label: ROOT, value: 0 };
     let with_root = |nodes: Vec<Node>| [vec![root], nodes].concat();
@@ -221,7 +222,7 @@ fn large_trees(size: usize) -> Vec<Vec<Node>> {
     let star = (1..size).map(|number| Node { parent: 0, label: 3, value: number as u16 }).collect();
     let tooth = |number: usize| match number % 2 {
         1 => Node { parent: number.saturating_sub(2) as u16, label: 2, value: 0 },
-        _ => Node { parent: number as u16 - 1, label: 3, value: (number % (1 + size / 4)) as u16 },
+        _ => Node { parent: number as u16 - 1, label: 3, value: (number % COMB_VALUES) as u16 },
     };
     vec![with_root(chain), with_root(star), with_root((1..size).map(tooth).collect())]
 }
