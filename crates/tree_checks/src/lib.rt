@@ -1,6 +1,6 @@
 // "test whether a tree keeps a key; check a counterexample" (document 01, "What the work covers"). Neither asks anything of its bytes.
-pub mod inputs;
-pub mod keys;
+mod inputs;
+mod keys;
 
 use crate::inputs::read_both;
 use crate::keys::breaks;

@@ -9,10 +9,11 @@ use mathlib.Core.Option.{some, Option·none-ne-some}
 use native.Mathlib.Omega.{arith}
 use lib.Dec.{T}
 use lib.ListN.{length}
-use Rattle.meaning.specs.Keys.{Key, Implied}
-use Rattle.meaning.specs.Rules.{Line, lineKeys, EndsWith}
+use Rattle.meaning.specs.Keys.{Key, Keeps, Implied}
+use Rattle.meaning.specs.Rules.{Line, lineKeys, EndsWith, Accepted}
 use Rattle.meaning.specs.Paths.{classOf}
-use Rattle.meaning.specs.Refusals.{Refusal, firstRefusal, profileRefusal, questionRefusal, questionIn, answerRefusal, proofWalked}
+use Rattle.meaning.specs.Trees.{tableOf}
+use Rattle.meaning.specs.Refusals.{Refusal, firstRefusal, profileRefusal, questionRefusal, questionIn, answerRefusal, proofWalked, nodesIn}
 use Rattle.meaning.specs.Pattern.{writtenNodes}
 use Rattle.meaning.specs.Operations
 use Rattle.meaning.specs.Operations.{
@@ -45,8 +46,21 @@ use Rattle.meaning.specs.Operations.{
   faulty,
   otherEnd,
   proved,
+  treeIn,
+  treeRefusals,
+  KeepsIn,
+  BreaksIn,
+  ChecksCounterexample,
+  CounterexampleJudged,
+  breaksKey,
+  keepsQuestion,
+  refutes,
 }
 use Rattle.theory_records.specs.Questions.{lines-at-stop}
+use Rattle.theory_records.specs.Profiles.{accepted-labels, refusal-none}
+use Rattle.theory_records.specs.TreeFiles.{tree-is-tree}
+use Rattle.theory_rules.specs.Accepted.{accepted-implied}
+use Rattle.theory_counter.specs.Counterexample.{class-agrees}
 use Rattle.theory_operations.specs.Refusing.{sound-more, sound-end, answer-large}
 use Rattle.theory_decide.specs.NotImplied.{never-too-large, tree-bytes}
 
@@ -89,13 +103,17 @@ passed-says : (rs : List Refusal) (buffer : List ℕ) (Q : Answer → Type 0) (a
 unfolding Unless choose
 passed-says rs buffer Q answer e u = subst (λ (n : ℕ). choose n (Q answer) (answer ≡ refusedBy (firstRefusal rs) buffer)) e u
 
-accepted-says : (rs : List Refusal) (buffer : List ℕ) (Q : Answer → Type 0) → Unless rs buffer Q (plain accepted) → Q (plain accepted)
+-- an answer that accepts refuses nothing
+accepted-passes : (rs : List Refusal) (Q : Answer → Type 0) → Unless rs [] Q (plain accepted) → firstRefusal rs .number ≡ 0
 unfolding Unless choose plain refusedBy
-accepted-says rs buffer Q u = go (firstRefusal rs .number) u
+accepted-passes rs Q u = go (firstRefusal rs .number) u
   where
-    go : (n : ℕ) → choose n (Q (plain accepted)) (plain accepted ≡ refusedBy (firstRefusal rs) buffer) → Q (plain accepted)
-    go zero q = q
+    go : (n : ℕ) → choose n (Q (plain accepted)) (plain accepted ≡ refusedBy (firstRefusal rs) []) → n ≡ 0
+    go zero q = refl
     go (suc n) e = absurd (not-refused (sym (ap (λ (a : Answer). a .verdict) e)))
+
+accepted-says : (rs : List Refusal) (Q : Answer → Type 0) → Unless rs [] Q (plain accepted) → Q (plain accepted)
+accepted-says rs Q u = passed-says rs [] Q (plain accepted) (accepted-passes rs Q u) u
 
 -- ---- the verdict
 
@@ -141,10 +159,6 @@ module _ (profile question buffer : List ℕ) (room : 65536 ≤ length buffer) (
   pub not-implied-said : (Asked → ⊥) → answer .verdict ≡ notImplied
   not-implied-said f = ⊎-elim (λ p. absurd (f (p .holds))) tree-says evidence
 
--- "never both": no question has a proof that the check accepts and a tree that it accepts
-pub never-both : (profile question buffer : List ℕ) (a b : Answer) → ProofWritten profile question buffer a → TreeWritten profile question buffer b → ⊥
-never-both profile question buffer a b p t = t .fails (p .holds)
-
 -- ---- the evidence
 
 some-line : (lines : List Line) (question : Key) → EndsWith lines question → 1 ≤ length lines
@@ -152,21 +166,60 @@ unfolding EndsWith lineKeys
 some-line [] question e = absurd (Option·none-ne-some _ e)
 some-line (l ∷ lines) question e = omega arith
 
--- an accepted proof is 1 to 256 lines, to its end
-pub record ProofLines (profile proof : List ℕ) : Type 0 where
+-- An accepted proof is 1 to 256 lines, to its end; each follows and the last line's key is the question
+pub record ProofLines (profile question proof : List ℕ) : Type 0 where
+  pub sound : profileRefusal profile .number ≡ 0
   pub whole : proofWalked (labelsIn profile) proof .number ≡ 0
   pub some : 1 ≤ length (proofWalked (labelsIn profile) proof .state)
   pub most : length (proofWalked (labelsIn profile) proof .state) ≤ 256
+  pub holds : Accepted (labelsIn profile) (keysIn profile) (questionIn question) (proofWalked (labelsIn profile) proof .state)
 
-pub accepted-lines : (profile question proof : List ℕ) → ChecksProof profile question proof (plain accepted) → ProofLines profile proof
+pub accepted-lines : (profile question proof : List ℕ) → ChecksProof profile question proof (plain accepted) → ProofLines profile question proof
 unfolding ChecksProof plain refusedBy
-accepted-lines profile question proof c = go (accepted-says _ [] _ c)
+accepted-lines profile question proof c = go (accepted-says _ _ c)
   where
-    go : ProofJudged (labelsIn profile) (keysIn profile) (questionIn question) (proofWalked (labelsIn profile) proof) (plain accepted) → ProofLines profile proof
+    go : ProofJudged (labelsIn profile) (keysIn profile) (questionIn question) (proofWalked (labelsIn profile) proof) (plain accepted)
+        → ProofLines profile question proof
     go (unfollowed n h l f e) = absurd (not-refused (sym (ap (λ (a : Answer). a .verdict) e)))
     go (faulty l r e) = absurd (not-refused (sym (ap (λ (a : Answer). a .verdict) e)))
     go (otherEnd l z f e) = absurd (not-refused (sym (ap (λ (a : Answer). a .verdict) e)))
-    go (proved l z e a) = record { whole = z; some = some-line _ _ e; most = lines-at-stop (labelsIn profile) proof .few }
+    go (proved l z e a) =
+        record {
+          sound = refusal-none _ _ (accepted-passes _ _ c) .0;
+          whole = z;
+          some = some-line _ _ e;
+          most = lines-at-stop (labelsIn profile) proof .few;
+          holds = record { each = l; last = e };
+        }
+
+-- What the check of a proof accepts is true of every tree, whoever wrote it
+pub accepted-proof-implies : (profile question proof : List ℕ) → ChecksProof profile question proof (plain accepted)
+    → Implied (labelsIn profile) (keysIn profile) (questionIn question)
+accepted-proof-implies profile question proof c =
+    let p = accepted-lines profile question proof c in
+    accepted-implied (labelsIn profile) (keysIn profile) (questionIn question) _ (accepted-labels profile (p .sound))
+    (lines-at-stop (labelsIn profile) proof .good) (p .holds)
+
+-- and what the check of a counterexample accepts is a tree that refutes the question
+pub accepted-tree-refutes : (profile question tree : List ℕ) → ChecksCounterexample profile question tree (plain accepted)
+    → Implied (labelsIn profile) (keysIn profile) (questionIn question) → ⊥
+unfolding ChecksCounterexample treeRefusals KeepsIn BreaksIn treeIn Implied Keeps plain refusedBy
+accepted-tree-refutes profile question tree c all = go (accepted-says _ _ c)
+  where
+    go : CounterexampleJudged profile question tree (plain accepted) → ⊥
+    go (breaksKey n key f k b e) = not-refused (sym (ap (λ (a : Answer). a .verdict) e))
+    go (keepsQuestion k q e) = not-refused (sym (ap (λ (a : Answer). a .verdict) e))
+    go (refutes k b e) =
+        let one = refusal-none _ _ (accepted-passes _ _ c) in
+        let two = refusal-none _ _ (one .1) in
+        let three = refusal-none _ _ (two .1) in
+        all (classOf (labelsIn profile)) (class-agrees (labelsIn profile)) (tableOf (nodesIn (labelsIn profile) tree))
+        (tree-is-tree (labelsIn profile) (accepted-labels profile (one .0)) tree (three .0)) k b
+
+-- "never both": no question has a proof that the check accepts and a tree that the check accepts
+pub never-both : (profile question proof tree : List ℕ) → ChecksProof profile question proof (plain accepted)
+    → ChecksCounterexample profile question tree (plain accepted) → ⊥
+never-both profile question proof tree p t = accepted-tree-refutes profile question tree t (accepted-proof-implies profile question proof p)
 
 -- "not implied with bytes used (9 times the nodes)"
 pub tree-used : (profile question buffer : List ℕ) → profileRefusal profile .number ≡ 0 → questionRefusal (labelsIn profile) question .number ≡ 0
