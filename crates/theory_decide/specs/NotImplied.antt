@@ -3,7 +3,6 @@
 use Prim.Native.Nat.{ℕ, _*_, _≤_, _<_}
 use mathlib.Core.Path.{_≡_, refl, sym, ap, subst}
 use mathlib.Core.List.{List, []}
-use native.Mathlib.Omega.{arith}
 use lib.ListN.{length}
 use Rattle.meaning.specs.Limits.{inProfile}
 use Rattle.meaning.specs.Lists.{Each}
@@ -12,7 +11,6 @@ use Rattle.meaning.specs.Trees.{tableOf}
 use Rattle.meaning.specs.Keys.{Breaks, Keeps}
 use Rattle.meaning.specs.Refusals.{Refusal, profileRefusal, questionRefusal, questionIn}
 use Rattle.meaning.specs.Pattern.{tOf, IsU, writtenNodes, writtenTree}
-use Rattle.meaning.specs.Operations
 use Rattle.meaning.specs.Operations.{
   labelsIn,
   keysIn,
