@@ -28,7 +28,7 @@ const VERDICTS: [(u8, &str); 11] = [
 ];
 
 /// Every refusal that an operation can give, by input and numbers (01, "Refusal numbers"). Each has to be
-/// seen, and no other: no question reaches 11, a body lookup refuses nothing, 7 never has input 2.
+/// seen, and no other: 11 is retired, a body lookup refuses nothing, 7 never has input 2.
 const REFUSALS: [(&[u8], u32, &[u32]); 9] = [
     (&[REWRITE, DECIDE, LIST], ANSWER, &[14]),
     (&[REWRITE, INCLUDE, KEEP, CHECK_PROOF, CHECK_TREE, DECIDE, LIST], PROFILE, &[1, 2, 3, 4, 5, 6, 7]),

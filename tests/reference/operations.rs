@@ -1,5 +1,5 @@
 //! The public operations on bytes, with every refusal in 01's order: 14, then profile, question,
-//! tree or proof; then 10, or 12 before 13; 11 last.
+//! tree or proof; then 10, or 12 before 13. 11 is retired (02, request 8) and never given.
 use super::decide::{counterexample, proof, verdict, Pattern, Verdict};
 use super::listing::block;
 use super::paths::is_included;
@@ -8,7 +8,9 @@ use super::rules::follows;
 use super::trees::Tree;
 use super::wrong;
 
-pub const COUNTEREXAMPLE_NODES: usize = 256;
+/// The most nodes a written tree has (02, request 8): root, C, T and 4 key paths of 8 symbols, with u at q
+/// and a filler attribute for each: 2 * 9 once and 2 * 40 twice.
+const MOST_NODES: usize = 178;
 
 /// What the decider answers, with the bytes that it writes to the front of the answer buffer.
 #[derive(Clone, PartialEq, Eq, Debug)]
@@ -90,9 +92,7 @@ pub fn decide(profile: &[u8], question: &[u8], answer: usize) -> Result<Decision
         }
         Verdict::NotImplied { u } => {
             let nodes = counterexample(&pattern, u, &profile);
-            if nodes.len() > COUNTEREXAMPLE_NODES {
-                return refuse(11, QUESTION, 0);
-            }
+            assert!(nodes.len() <= MOST_NODES, "a written tree of {} nodes", nodes.len());
             Ok(Decision::NotImplied(write_tree(&nodes)))
         }
     }

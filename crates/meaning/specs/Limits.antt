@@ -75,12 +75,9 @@ proofBytes = 65536
 abbrev pub proofLines : ℕ
 proofLines = 256
 
--- "it is under 65,536 bytes"; "the counterexample would have over 256 nodes"; "Block k is lines 1,024k to 1,024k + 1,023"
+-- "it is under 65,536 bytes"; "Block k is lines 1,024k to 1,024k + 1,023"
 abbrev pub answerBytes : ℕ
 answerBytes = 65536
-
-abbrev pub counterexampleNodes : ℕ
-counterexampleNodes = 256
 
 abbrev pub blockLines : ℕ
 blockLines = 1024

@@ -6,7 +6,7 @@ use mathlib.Core.Bool.{Bool}
 use mathlib.Core.List.{List, [], _∷_, _++_}
 use mathlib.Core.Option.{some}
 use lib.ListN.{length, take, drop, getElem?}
-use Rattle.meaning.specs.Limits.{proofBytes, counterexampleNodes}
+use Rattle.meaning.specs.Limits.{proofBytes}
 use Rattle.meaning.specs.Lists.{Each}
 use Rattle.meaning.specs.Paths.{Label, classOf, Included}
 use Rattle.meaning.specs.Trees.{Table, tableOf}
@@ -15,7 +15,7 @@ use Rattle.meaning.specs.Rules.{Line, FollowsAt, FollowsBelow, EndsWith}
 use Rattle.meaning.specs.Records.{recordLength, recordBody}
 use Rattle.meaning.specs.Refusals
 use Rattle.meaning.specs.Refusals.{Refusal, Profile, Walked, firstRefusal, profileIn, profileRefusal, questionIn, questionRefusal, nodesIn, treeRefusal, proofWalked, pathRefusal, answerRefusal}
-use Rattle.meaning.specs.Pattern.{IsU, writtenNodes, writtenTree}
+use Rattle.meaning.specs.Pattern.{IsU, writtenTree}
 use Rattle.meaning.specs.Listing.{block}
 
 pub data Verdict : Type 0 where
@@ -146,7 +146,7 @@ Lists profile tree k buffer =
     (λ answer. answer ≡ filled listed (block (labelsIn profile) (nodesIn (labelsIn profile) tree) k) buffer)
 
 -- "decide a question". Implied: the first `used` bytes of the buffer are a proof that the check accepts. Not implied: they are the tree
--- that is fixed, which the check accepts. 11: "the counterexample would have over 256 nodes (input 2)", last
+-- that is fixed, which the check accepts. (11 is retired: the tree has at most 178 nodes)
 pub record ProofWritten (profile question buffer : List ℕ) (answer : Answer) : Type 0 where
   pub holds : Implied (labelsIn profile) (keysIn profile) (questionIn question)
   pub bytes : List ℕ
@@ -158,18 +158,10 @@ pub record TreeWritten (profile question buffer : List ℕ) (answer : Answer) : 
   pub fails : Implied (labelsIn profile) (keysIn profile) (questionIn question) → ⊥
   pub u : ℕ
   pub isU : IsU (keysIn profile) (questionIn question) u
-  pub within : length (writtenNodes (classOf (labelsIn profile)) (questionIn question) u) ≤ counterexampleNodes
   pub checked : ChecksCounterexample profile question (writtenTree (classOf (labelsIn profile)) (questionIn question) u) (plain accepted)
   pub answered : answer ≡ filled notImplied (writtenTree (classOf (labelsIn profile)) (questionIn question) u) buffer
-
-pub record TreeTooLarge (profile question buffer : List ℕ) (answer : Answer) : Type 0 where
-  pub fails : Implied (labelsIn profile) (keysIn profile) (questionIn question) → ⊥
-  pub u : ℕ
-  pub isU : IsU (keysIn profile) (questionIn question) u
-  pub beyond : counterexampleNodes < length (writtenNodes (classOf (labelsIn profile)) (questionIn question) u)
-  pub answered : answer ≡ refusedBy (record { number = 11; input = 2; place = 0 }) buffer
 
 unfoldable pub Decides : (profile question buffer : List ℕ) → Answer → Type 0
 Decides profile question buffer =
     Unless (answerRefusal buffer ∷ profileRefusal profile ∷ questionRefusal (labelsIn profile) question ∷ []) buffer
-    (λ answer. ProofWritten profile question buffer answer ⊎ (TreeWritten profile question buffer answer ⊎ TreeTooLarge profile question buffer answer))
+    (λ answer. ProofWritten profile question buffer answer ⊎ TreeWritten profile question buffer answer)

@@ -1,4 +1,4 @@
--- How many nodes the written tree has: at most 178 (request 8), so "over 256 nodes" never happens.
+-- How many nodes the written tree has: at most 178 (request 8).
 use Prim.Native.Nat.{ℕ, zero, suc, _+_, _-_, _*_, _≤_, _<_}
 use mathlib.Core.Path.{_≡_, refl, ap, subst}
 use mathlib.Core.Bool.{Bool, true, false}

@@ -1,9 +1,8 @@
--- Verdict "not implied": the tree that is fixed is a file that the counterexample check accepts, so no proof can be written; and it never
--- has over 256 nodes.
+-- Verdict "not implied": the tree that is fixed is a file that the counterexample check accepts, so no proof can be written; and it has
+-- at most 178 nodes.
 use Prim.Native.Nat.{ℕ, _*_, _≤_, _<_}
 use mathlib.Core.Path.{_≡_, refl, sym, ap, subst}
 use mathlib.Core.List.{List, []}
-use native.Mathlib.Omega.{arith}
 use lib.ListN.{length}
 use Rattle.meaning.specs.Limits.{inProfile}
 use Rattle.meaning.specs.Lists.{Each}
@@ -12,7 +11,6 @@ use Rattle.meaning.specs.Trees.{tableOf}
 use Rattle.meaning.specs.Keys.{Breaks, Keeps}
 use Rattle.meaning.specs.Refusals.{Refusal, profileRefusal, questionRefusal, questionIn}
 use Rattle.meaning.specs.Pattern.{tOf, IsU, writtenNodes, writtenTree}
-use Rattle.meaning.specs.Operations
 use Rattle.meaning.specs.Operations.{
   labelsIn,
   keysIn,
@@ -27,7 +25,6 @@ use Rattle.meaning.specs.Operations.{
   accepted,
   notImplied,
   TreeWritten,
-  TreeTooLarge,
 }
 use Rattle.theory_paths.specs.Good.{GoodLabels, GoodKey}
 use Rattle.theory_records.specs.Profiles.{accepted-labels, accepted-keys}
@@ -46,7 +43,7 @@ module _ (profile question : List ℕ) (soundProfile : profileRefusal profile .n
   goodAsked : GoodKey (labelsIn profile) inProfile (questionIn question)
   goodAsked = question-accepts (labelsIn profile) question soundQuestion .good
 
-  -- request 8: refusal 11 is never given
+  -- request 8
   pub tree-most : length (writtenNodes (classOf (labelsIn profile)) (questionIn question) u) ≤ 178
   tree-most = written-most (classOf (labelsIn profile)) (labelsIn profile) (questionIn question) goodAsked u (isU .fromQ) (isU .toT)
 
@@ -94,15 +91,6 @@ module _ (profile question : List ℕ) (soundProfile : profileRefusal profile .n
               (accepted-keys profile soundProfile);
           u = u;
           isU = isU;
-          within = let m = tree-most in omega arith;
           checked = tree-checks;
           answered = refl;
         }
-
--- refusal 11 is never given
-pub never-too-large : (profile question buffer : List ℕ) → questionRefusal (labelsIn profile) question .number ≡ 0 → profileRefusal profile .number ≡ 0
-    → (answer : Operations.Answer) → TreeTooLarge profile question buffer answer → ⊥
-never-too-large profile question buffer q p answer t =
-    let m = tree-most profile question p q (t .u) (t .isU) in
-    let b = t .beyond in
-    omega arith

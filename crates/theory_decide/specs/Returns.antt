@@ -52,4 +52,4 @@ module _ (profile question buffer : List ℕ) where
             → Decides profile question buffer (filled notImplied (writtenTree (classOf (labelsIn profile)) (questionIn question) u) buffer)
         unfolding Decides
         decide-not u isU below =
-            unless-sound _ buffer _ _ passed (inr (inl (not-implied-written profile question (sound-number p) (sound-number q) u isU below buffer)))
+            unless-sound _ buffer _ _ passed (inr (not-implied-written profile question (sound-number p) (sound-number q) u isU below buffer))

@@ -17,7 +17,7 @@ use Rattle.meaning.specs.Paths
 use Rattle.meaning.specs.Refusals
 use Rattle.meaning.specs.Pattern
 use Rattle.meaning.specs.Operations
-use Rattle.meaning.specs.Operations.{Answer, Unless, choose, refusedBy, Rewrites, Includes, TestsTree, KeepsIn, BreaksIn, ProofJudged, ChecksProof, CounterexampleJudged, ChecksCounterexample, Lists, Decides, ProofWritten, TreeWritten, TreeTooLarge}
+use Rattle.meaning.specs.Operations.{Answer, Unless, choose, refusedBy, Rewrites, Includes, TestsTree, KeepsIn, BreaksIn, ProofJudged, ChecksProof, CounterexampleJudged, ChecksCounterexample, Lists, Decides, ProofWritten, TreeWritten}
 use Rattle.meaning.specs.Operations.{unfollowed, faulty, otherEnd, proved, breaksKey, keepsQuestion, refutes}
 
 -- Below the refusals, the answers of Q are all the same
@@ -139,7 +139,7 @@ pub record BothProofs (profile question buffer : List ℕ) (a b : Answer) : Type
 
 module _ (profile question buffer : List ℕ) where
   Below : Answer → Type 0
-  Below a = ProofWritten profile question buffer a ⊎ (TreeWritten profile question buffer a ⊎ TreeTooLarge profile question buffer a)
+  Below a = ProofWritten profile question buffer a ⊎ TreeWritten profile question buffer a
 
   written-unique : (a b : Answer) → TreeWritten profile question buffer a → TreeWritten profile question buffer b → a ≡ b
   written-unique a b p q =
@@ -148,25 +148,12 @@ module _ (profile question buffer : List ℕ) where
       (u-unique _ _ (p .u) (q .u) (p .isU) (q .isU))
       ∙ sym (q .answered)
 
-  size-clash : {a b : Answer} → TreeWritten profile question buffer a → TreeTooLarge profile question buffer b → ⊥
-  size-clash p q =
-      let e = ap (λ (u : ℕ). length (Pattern.writtenNodes (Paths.classOf (Operations.labelsIn profile)) (Refusals.questionIn question) u))
-      (u-unique _ _ (p .u) (q .u) (p .isU) (q .isU)) in
-      let h = p .within in
-      let k = q .beyond in
-      omega arith
-
   below-unique : (a b : Answer) → Below a → Below b → (a ≡ b) ⊎ BothProofs profile question buffer a b
   unfolding Below
   below-unique a b (inl p) (inl q) = inr (record { first = p; second = q })
-  below-unique a b (inl p) (inr (inl q)) = absurd (q .fails (p .holds))
-  below-unique a b (inl p) (inr (inr q)) = absurd (q .fails (p .holds))
-  below-unique a b (inr (inl p)) (inl q) = absurd (p .fails (q .holds))
-  below-unique a b (inr (inl p)) (inr (inl q)) = inl (written-unique a b p q)
-  below-unique a b (inr (inl p)) (inr (inr q)) = absurd (size-clash p q)
-  below-unique a b (inr (inr p)) (inl q) = absurd (p .fails (q .holds))
-  below-unique a b (inr (inr p)) (inr (inl q)) = absurd (size-clash q p)
-  below-unique a b (inr (inr p)) (inr (inr q)) = inl (p .answered ∙ sym (q .answered))
+  below-unique a b (inl p) (inr q) = absurd (q .fails (p .holds))
+  below-unique a b (inr p) (inl q) = absurd (p .fails (q .holds))
+  below-unique a b (inr p) (inr q) = inl (written-unique a b p q)
 
   pub decides-unique : (a b : Answer) → Decides profile question buffer a → Decides profile question buffer b
       → (a ≡ b) ⊎ BothProofs profile question buffer a b

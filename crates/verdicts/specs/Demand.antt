@@ -2,7 +2,7 @@
 -- and values, that keeps the profile keeps the key; else not implied. Each with its evidence, never both.
 use Prim.Native.Nat.{ℕ, zero, suc, _*_, _≤_}
 use mathlib.Core.Path.{_≡_, refl, sym, _∙_, ap, subst}
-use mathlib.Core.Logic.{_⊎_, inl, inr, ⊎-elim}
+use mathlib.Core.Logic.{_⊎_, ⊎-elim}
 use mathlib.Core.Bool.{Bool, true, false}
 use mathlib.Core.List.{List, [], _∷_}
 use mathlib.Core.Option.{some, Option·none-ne-some}
@@ -39,7 +39,6 @@ use Rattle.meaning.specs.Operations.{
   Decides,
   ProofWritten,
   TreeWritten,
-  TreeTooLarge,
   ChecksProof,
   ProofJudged,
   unfollowed,
@@ -62,7 +61,7 @@ use Rattle.theory_records.specs.TreeFiles.{tree-is-tree}
 use Rattle.theory_rules.specs.Accepted.{accepted-implied}
 use Rattle.theory_counter.specs.Counterexample.{class-agrees}
 use Rattle.theory_operations.specs.Refusing.{sound-more, sound-end, answer-large}
-use Rattle.theory_decide.specs.NotImplied.{never-too-large, tree-bytes}
+use Rattle.theory_decide.specs.NotImplied.{tree-bytes, tree-most}
 
 -- the verdicts that tell answers apart
 unfoldable isImplied : Verdict → Bool
@@ -122,20 +121,13 @@ module _ (profile question buffer : List ℕ) (room : 65536 ≤ length buffer) (
   abbrev Asked : Type 0
   Asked = Implied (labelsIn profile) (keysIn profile) (questionIn question)
 
-  -- "Each with its evidence": one of the two, since refusal 11 is never given
+  -- "Each with its evidence": one of the two
   pub evidence : ProofWritten profile question buffer answer ⊎ TreeWritten profile question buffer answer
   unfolding Decides
-  evidence = go (passed-says _ buffer _ answer passes decides)
+  evidence = passed-says _ buffer _ answer passes decides
     where
       passes : firstRefusal (answerRefusal buffer ∷ profileRefusal profile ∷ questionRefusal (labelsIn profile) question ∷ []) .number ≡ 0
       passes = sound-more _ _ (answer-large buffer room) (sound-more _ _ soundProfile (sound-more _ _ soundQuestion sound-end))
-
-      go : ProofWritten profile question buffer answer
-          ⊎ (TreeWritten profile question buffer answer ⊎ TreeTooLarge profile question buffer answer)
-          → ProofWritten profile question buffer answer ⊎ TreeWritten profile question buffer answer
-      go (inl p) = inl p
-      go (inr (inl t)) = inr t
-      go (inr (inr x)) = absurd (never-too-large profile question buffer soundQuestion soundProfile answer x)
 
   proof-says : ProofWritten profile question buffer answer → answer .verdict ≡ implied
   unfolding filled
@@ -227,3 +219,11 @@ pub tree-used : (profile question buffer : List ℕ) → profileRefusal profile 
     → answer .used ≡ 9 * length (writtenNodes (classOf (labelsIn profile)) (questionIn question) (t .u))
 unfolding filled
 tree-used profile question buffer p q answer t = ap (λ (a : Answer). a .used) (t .answered) ∙ tree-bytes profile question p q (t .u) (t .isU)
+
+-- request 8: at most 178 nodes, for every question that is accepted
+pub tree-within : (profile question buffer : List ℕ) → profileRefusal profile .number ≡ 0 → questionRefusal (labelsIn profile) question .number ≡ 0
+    → (answer : Answer) → TreeWritten profile question buffer answer → answer .used ≤ 9 * 178
+tree-within profile question buffer p q answer t =
+    let e = tree-used profile question buffer p q answer t in
+    let m = tree-most profile question p q (t .u) (t .isU) in
+    omega arith
