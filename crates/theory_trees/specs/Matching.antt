@@ -1,7 +1,7 @@
--- Lists in another order: what is pairwise equal to a list is so to it in another order, and counting its members tells the order nothing.
-use Prim.Native.Nat.{ℕ, zero, suc, _+_, _≤_, _<_}
+-- Lists in another order: what is pairwise equal to a list can follow it into any order, and a count of its members is the same in any order.
+use Prim.Native.Nat.{ℕ, suc, _+_, _<_}
 use mathlib.Core.Path.{_≡_, refl, sym, _∙_, ap, ap₂, subst}
-use mathlib.Core.Bool.{Bool, true, false, cond}
+use mathlib.Core.Bool.{Bool, true, false}
 use mathlib.Core.List.{
   List,
   [],
@@ -15,7 +15,6 @@ use mathlib.Core.List.{
   List·Permᴰ·swap,
   List·Permᴰ·trans,
   Permᴰ·refl,
-  Permᴰ·symm,
 }
 use native.Mathlib.Omega.{arith}
 use lib.Dec.{T}
@@ -106,5 +105,6 @@ module _ {κ : ℕ → Class} {t : Table} where
       let g = carried e (c .equal) in
       record { other = g .other; order = List·Permᴰ·trans (c .order) (g .order); equal = g .equal }
 
+  -- table order is one pairing
   pub lists-sets : {xs ys : List ℕ} → EqualLists κ t xs ys → EqualSets κ t xs ys
   lists-sets {ys = ys} h = matched (Permᴰ·refl ys) h

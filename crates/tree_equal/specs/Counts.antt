@@ -2,20 +2,20 @@
 use Prim.Native.Nat.{ℕ, zero, suc, _+_, _<_, _≤_}
 use mathlib.Core.Path.{_≡_, refl, sym, _∙_, ap, subst}
 use mathlib.Core.Logic.{_⊎_, inl, inr, ⊎-elim}
-use mathlib.Core.Bool.{Bool, true, false, true≢false, false≢true}
-use mathlib.Core.List.{List, [], _∷_, List·Memᴰ, List·Memᴰ·head, List·Memᴰ·tail, List·Memᴰ·cases-cons}
+use mathlib.Core.Bool.{Bool, true, false, false≢true}
+use mathlib.Core.List.{List, [], _∷_, List·Memᴰ, List·Memᴰ·cases-cons}
 use native.Mathlib.Omega.{arith}
 use lib.Dec.{T, eqb, eqb→eq}
 use lib.ListN.{length, getD}
 use borrow.Author.Tests.{eqb-true, eqb-false}
 use Rattle.meaning.specs.Lists.{every}
 use Rattle.meaning.specs.Paths.{Class, isAttribute}
-use Rattle.meaning.specs.Trees.{Table, Child, attributes, Equal, EqualSets}
-use Rattle.theory_paths.specs.Bools.{true-of, false-of, of-true, of-false, both, and-left, and-right, eqb-of, every-each, each-every}
+use Rattle.meaning.specs.Trees.{Table, Equal, EqualSets}
+use Rattle.theory_paths.specs.Bools.{true-of, false-of, of-true, both, and-left, and-right, eqb-of, every-each, each-every}
 use Rattle.theory_trees.specs.Children.{attribute-child, child-attribute}
 use Rattle.theory_trees.specs.Matching.{oneIf, countOf}
 use Rattle.theory_trees.specs.Counting.{sameLeaf, sameCounts, leaf-equal, equal-leaf, counts-sets, sets-counts}
-use Rattle.tree_nodes.specs.Links.{LeastChild, Firsts, Nexts}
+use Rattle.tree_nodes.specs.Links.{Firsts, Nexts}
 use Rattle.tree_nodes.specs.Rest.{rest, IsKind, listOf}
 use Rattle.tree_nodes.specs.Seek.{Sought, left}
 use Rattle.tree_nodes.specs.Decides.{Decides}
