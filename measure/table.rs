@@ -47,13 +47,15 @@ fn inclusions() -> Vec<Case> {
 /// Name, question, tree and the verdict, which stands derived by hand beside it.
 type TreeCase = (&'static str, &'static str, fn(usize) -> Table, &'static str);
 
-const TREE_CASES: [TreeCase; 12] = [
+const TREE_CASES: [TreeCase; 13] = [
     // Frames of two ports agree, and no port reaches both; below one port @seq differs.
     ("segment, one key", IN_A_PORT, segment, "kept"),
     // No two elements of a chain have equally many nodes below them.
     ("chain, {e}", EVERYWHERE, chain, "kept"),
     // The tops of the chains are equal, and the root reaches both.
     ("twin chains, {e}", EVERYWHERE, twin_chains, "broken"),
+    // "some one-to-one pairing": so are the elements with many attributes at their ends.
+    ("fat twin chains, {e}", EVERYWHERE, fat_twin_chains, "broken"),
     // Two teeth without anything below them are equal, and the root reaches both.
     ("comb of equal teeth, {e}", EVERYWHERE, comb_of_equal, "broken"),
     // No two teeth are equal, and no two elements have equally many nodes below them.

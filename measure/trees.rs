@@ -53,13 +53,29 @@ pub fn chain(nodes: usize) -> Table {
     table
 }
 
-/// Two equal chains below the root: equality of their tops goes down both.
+/// Two equal chains below the root: at each height two equal elements.
 pub fn twin_chains(nodes: usize) -> Table {
     let mut table = Table::new();
     for _ in 0..2 {
         let mut last = 0;
         for _ in 0..(nodes - 1) / 2 {
             last = table.element(last, RUN);
+        }
+    }
+    table
+}
+
+/// Two equal chains, each over one element with as many attributes as the chain has elements, which stand in two orders.
+pub fn fat_twin_chains(nodes: usize) -> Table {
+    let mut table = Table::new();
+    let most = (nodes - 1) / 4;
+    for reversed in [false, true] {
+        let mut last = 0;
+        for _ in 0..most {
+            last = table.element(last, RUN);
+        }
+        for i in 0..most {
+            table.add(last, SEQ, if reversed { most - 1 - i } else { i });
         }
     }
     table

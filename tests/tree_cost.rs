@@ -139,6 +139,37 @@ fn broom(nodes: usize) -> Table {
     table
 }
 
+/// So many attributes, no two of them equal, from the first or from the last.
+fn add_attributes(table: &mut Table, parent: usize, count: usize, reversed: bool) {
+    for i in 0..count {
+        table.add(parent, SEQ, if reversed { count - 1 - i } else { i });
+    }
+}
+
+/// Two chains, each over one element with as many attributes as the chain has elements; the second has them from the last to the first. If
+/// that element were compared anew for each ancestor, it would be 1,023 times 2 * 1,023 * 1,023 comparisons of attributes.
+fn fat_twin_chains(nodes: usize) -> Table {
+    let mut table = Table::new();
+    for reversed in [false, true] {
+        let mut last = 0;
+        for _ in 0..(nodes - 1) / 4 {
+            last = table.element(last, RUN);
+        }
+        add_attributes(&mut table, last, (nodes - 1) / 4, reversed);
+    }
+    table
+}
+
+/// Two elements with all attributes of the tree, in two orders.
+fn fat_twins(nodes: usize) -> Table {
+    let mut table = Table::new();
+    for reversed in [false, true] {
+        let element = table.element(0, RUN);
+        add_attributes(&mut table, element, (nodes - 3) / 2, reversed);
+    }
+    table
+}
+
 const TEXTS: usize = 5;
 
 /// Chains that differ at their ends in the order of the texts alone: nodes with equally many nodes below them and, order apart, the same ones.
@@ -242,8 +273,12 @@ fn cases() -> Vec<Case> {
         keep("broom, contexts apart", "(_*.run.frame,(_*.port,{e}))", broom, "kept"),
         // No port is reached: no run of a target stands below a stamp.
         keep("broom, no target", "(_*,(_*.stamp._*.port,{e}))", broom, "kept"),
-        // "in table order": no two chains have their texts in one order, and no two elements of a chain have equally many nodes below them.
+        // "Elements and text keep their order": no two chains have their texts in one order, and no two elements of a chain have equally
+        // many nodes below them.
         keep("chains of other orders, {e}", "(_*,(_*.run,{e}))", orders, "kept"),
+        // "some one-to-one pairing": the two elements with many attributes are equal, and so are the chains over them.
+        keep("twin chains over one fat element", "(e,(run,{e}))", fat_twin_chains, "broken"),
+        keep("two fat elements", "(e,(run,{e}))", fat_twins, "broken"),
     ];
     // The segment keeps all 64, and breaks the question: @seq 0 stands in two ports.
     cases.push(Case {

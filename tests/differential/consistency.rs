@@ -33,8 +33,8 @@ pub fn is_consistent(seed: u64, count: usize) -> bool {
     failed == 0
 }
 
-/// Rewriting changes nothing, a written tree is read, the fast tree test is the definition, and no tree
-/// that keeps the profile breaks a line that follows.
+/// Rewriting changes nothing, a written tree is read, value equality by numbers and the fast tree test are
+/// the definitions, and no tree that keeps the profile breaks a line that follows.
 fn trees_and_lines(random: &mut Random, asked: &Asked) -> Result<(), String> {
     let profile = write_profile(&asked.profile);
     if rewrite(&profile, ANSWER_BYTES) != Ok(profile.clone()) {
@@ -46,6 +46,10 @@ fn trees_and_lines(random: &mut Random, asked: &Asked) -> Result<(), String> {
         return Err("a written tree is not read".to_string());
     }
     let table = Tree::new(&nodes, &asked.profile.classes);
+    let differs = |x: usize, y: usize| (table.worth[x] == table.worth[y]) != table.is_equal_by_definition(x, y);
+    if (0..nodes.len()).any(|x| (0..nodes.len()).any(|y| differs(x, y))) {
+        return Err("value equality by numbers differs from the definition".to_string());
+    }
     for key in asked.profile.keys.iter().take(KEYS_BY_DEFINITION).chain(std::iter::once(&asked.question)) {
         if table.keeps(key) != table.keeps_by_definition(key) {
             return Err("the fast tree test differs from the definition".to_string());

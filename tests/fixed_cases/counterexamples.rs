@@ -10,6 +10,7 @@ pub fn put(cases: &mut Cases) {
     equal_branches(cases);
     lowest_broken_key(cases);
     kept_questions(cases);
+    reordered_attributes(cases);
 }
 
 fn check(cases: &mut Cases, name: &str, keys: &[&str], asked: &str, nodes: &str, wanted: &str) {
@@ -94,4 +95,14 @@ fn kept_questions(cases: &mut Cases) {
     check(cases, "equal values", &[], "(e,(@id,{e}))", "0 - 203 -/1 0 6 1/2 0 6 1", "accepted");
     check(cases, "a smaller counterexample to b than 01's", &["(port,(frame,{@seq}))"], "(e,(port.frame,{@seq}))",
         "0 - 203 -/1 0 3 -/2 1 4 -/3 2 7 0/4 0 3 -/5 4 4 -/6 5 7 0", "accepted");
+}
+
+/// 02, request 2: two frames whose attributes stand in two orders are one value, for the profile's keys and for the question.
+fn reordered_attributes(cases: &mut Cases) {
+    let (whole, nodes) = ("(e,(frame,{e}))", "0 - 203 -/1 0 4 -/2 1 6 1/3 1 7 2/4 0 4 -/5 4 7 2/6 4 6 1");
+    check(cases, "frames in two orders break the question", &[], whole, nodes, "accepted");
+    check(cases, "frames in two orders break a key", &[whole], "(e,(frame,{@id}))", nodes, "refused 12 1 0");
+    let other = nodes.replace("5 4 7 2", "5 4 7 1");
+    check(cases, "frames in two orders, another value", &[whole], "(e,(frame,{@id}))", &other, "accepted");
+    check(cases, "frames in two orders, another value, as question", &[], whole, &other, "refused 13 3 0");
 }

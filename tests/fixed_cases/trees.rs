@@ -4,6 +4,7 @@ use super::notation::*;
 
 pub fn put(cases: &mut Cases) {
     equality(cases);
+    attribute_order(cases);
     deeper_equality(cases);
     labels_and_values(cases);
     repeated_attributes(cases);
@@ -29,7 +30,7 @@ fn equality(cases: &mut Cases) {
         ("one attribute's value differs", "0 - 203 -/1 0 4 -/2 1 6 1/3 1 7 2/4 0 4 -/5 4 6 1/6 4 7 3", "kept"),
         ("one attribute's value differs in its high byte", "0 - 203 -/1 0 4 -/2 1 6 1/3 0 4 -/4 3 6 257", "kept"),
         ("first attribute's value differs", "0 - 203 -/1 0 4 -/2 1 6 1/3 1 7 2/4 0 4 -/5 4 6 9/6 4 7 2", "kept"),
-        ("the order of two attributes differs", "0 - 203 -/1 0 4 -/2 1 6 1/3 1 7 2/4 0 4 -/5 4 7 2/6 4 6 1", "kept"),
+        ("the order of two attributes differs", "0 - 203 -/1 0 4 -/2 1 6 1/3 1 7 2/4 0 4 -/5 4 7 2/6 4 6 1", "broken"),
         ("one attribute more", "0 - 203 -/1 0 4 -/2 1 6 1/3 0 4 -/4 3 6 1/5 3 7 2", "kept"),
         ("one attribute less", "0 - 203 -/1 0 4 -/2 1 6 1/3 1 7 2/4 0 4 -/5 4 6 1", "kept"),
         ("one child more", "0 - 203 -/1 0 4 -/2 1 5 -/3 0 4 -/4 3 5 -/5 3 5 -", "kept"),
@@ -44,6 +45,29 @@ fn equality(cases: &mut Cases) {
         ("attributes before and after the others", "0 - 203 -/1 0 4 -/2 1 6 5/3 1 1 7/4 0 4 -/5 4 1 7/6 4 6 5", "broken"),
         ("two attributes around a child", "0 - 203 -/1 0 4 -/2 1 6 1/3 1 5 -/4 1 7 2/5 0 4 -/6 5 5 -/7 5 6 1/8 5 7 2", "broken"),
         ("children written in turns", "0 - 203 -/1 0 4 -/2 0 4 -/3 2 6 1/4 1 6 1/5 1 5 -/6 2 5 -", "broken"),
+    ] {
+        ask(cases, name, "(e,(frame,{e}))", nodes, wanted);
+    }
+}
+
+/// 02, request 2: attributes "are value-equal when some one-to-one pairing makes them so, a name that occurs twice included. Elements and
+/// text keep their order."
+fn attribute_order(cases: &mut Cases) {
+    for (name, nodes, wanted) in [
+        ("@seq 1 1 2 against 1 2 2", "0 - 203 -/1 0 4 -/2 1 7 1/3 1 7 1/4 1 7 2/5 0 4 -/6 5 7 1/7 5 7 2/8 5 7 2", "kept"),
+        ("@seq 1 1 2 against 2 1 1", "0 - 203 -/1 0 4 -/2 1 7 1/3 1 7 1/4 1 7 2/5 0 4 -/6 5 7 2/7 5 7 1/8 5 7 1", "broken"),
+        ("@id 1, @seq 2 against @id 2, @seq 1", "0 - 203 -/1 0 4 -/2 1 6 1/3 1 7 2/4 0 4 -/5 4 6 2/6 4 7 1", "kept"),
+        ("three attributes in another order", "0 - 203 -/1 0 4 -/2 1 6 1/3 1 7 2/4 1 7 3/5 0 4 -/6 5 7 3/7 5 6 1/8 5 7 2", "broken"),
+        ("one attribute more beside all of the first", "0 - 203 -/1 0 4 -/2 1 7 1/3 0 4 -/4 3 7 1/5 3 7 2", "kept"),
+        ("one attribute less, and no other", "0 - 203 -/1 0 4 -/2 1 7 1/3 1 7 2/4 0 4 -/5 4 7 2", "kept"),
+        ("attributes reordered one level down", "0 - 203 -/1 0 4 -/2 1 5 -/3 2 6 1/4 2 7 2/5 0 4 -/6 5 5 -/7 6 7 2/8 6 6 1", "broken"),
+        ("attributes reordered around a text", "0 - 203 -/1 0 4 -/2 1 6 1/3 1 1 9/4 1 7 2/5 0 4 -/6 5 7 2/7 5 1 9/8 5 6 1", "broken"),
+        (
+            "two elements that differ in an attribute, exchanged",
+            "0 - 203 -/1 0 4 -/2 1 5 -/3 2 6 1/4 1 5 -/5 4 6 2/6 0 4 -/7 6 5 -/8 7 6 2/9 6 5 -/10 9 6 1",
+            "kept",
+        ),
+        ("202 among others, reordered", "0 - 203 -/1 0 4 -/2 1 202 5/3 1 6 1/4 0 4 -/5 4 6 1/6 4 202 5", "broken"),
     ] {
         ask(cases, name, "(e,(frame,{e}))", nodes, wanted);
     }
@@ -90,7 +114,7 @@ fn repeated_attributes(cases: &mut Cases) {
         ("@seq 1 2 against 3 4: none is common", "(e,(frame,{@seq}))", "0 - 203 -/1 0 4 -/2 1 7 1/3 1 7 2/4 0 4 -/5 4 7 3/6 4 7 4", "kept"),
         ("@seq 1 1 against 1, by the attribute", "(e,(frame,{@seq}))", "0 - 203 -/1 0 4 -/2 1 7 1/3 1 7 1/4 0 4 -/5 4 7 1", "broken"),
         ("@seq 1 1 against 1, by the element", "(e,(frame,{e}))", "0 - 203 -/1 0 4 -/2 1 7 1/3 1 7 1/4 0 4 -/5 4 7 1", "kept"),
-        ("@seq 1 2 against 2 1, by the element", "(e,(frame,{e}))", "0 - 203 -/1 0 4 -/2 1 7 1/3 1 7 2/4 0 4 -/5 4 7 2/6 4 7 1", "kept"),
+        ("@seq 1 2 against 2 1, by the element", "(e,(frame,{e}))", "0 - 203 -/1 0 4 -/2 1 7 1/3 1 7 2/4 0 4 -/5 4 7 2/6 4 7 1", "broken"),
         ("@seq 1 2 against 1 2, by the element", "(e,(frame,{e}))", "0 - 203 -/1 0 4 -/2 1 7 1/3 1 7 2/4 0 4 -/5 4 7 1/6 4 7 2", "broken"),
         ("@seq 1 1 in one frame alone", "(e,(frame,{@seq}))", "0 - 203 -/1 0 4 -/2 1 7 1/3 1 7 1", "kept"),
         ("@seq 1 1 as targets", "(frame,(@seq,{e}))", "0 - 203 -/1 0 4 -/2 1 7 1/3 1 7 1", "broken"),

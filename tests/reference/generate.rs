@@ -4,6 +4,7 @@ use super::decide::{counterexample, proof, verdict, Pattern, Verdict};
 use super::paths::*;
 use super::random::Random;
 use super::records::*;
+use std::collections::BTreeMap;
 
 /// The labels of one random profile.
 pub struct World {
@@ -244,11 +245,29 @@ pub fn tree(random: &mut Random, world: &World, size: usize) -> Vec<Node> {
             copy_below(random, world, &mut nodes, copied, most);
         }
     }
+    if size < 1_000 && random.chance(1, 3) {
+        reordered_twins(random, world, &mut nodes);
+    }
     nodes
 }
 
+/// Two elements next to each other that have the same attributes in two orders: of the first's, the first comes last.
+fn reordered_twins(random: &mut Random, world: &World, nodes: &mut Vec<Node>) {
+    let parents: Vec<usize> = (0..nodes.len()).filter(|&node| !world.classes.is_last_only(nodes[node].label)).collect();
+    let (parent, label) = (random.one_of(&parents) as u16, random.one_of(&world.elements));
+    let names: Vec<u8> = world.last_only.iter().map(|&last| if last == TEXT { FILLER_ATTRIBUTE } else { last }).collect();
+    let mut attributes: Vec<(u8, u16)> =
+        (0..2 + random.below(2)).map(|_| (random.one_of(&names), random.below(3) as u16)).collect();
+    for _ in 0..2 {
+        let twin = nodes.len() as u16;
+        nodes.push(Node { parent, label, value: 0 });
+        nodes.extend(attributes.iter().map(|&(label, value)| Node { parent: twin, label, value }));
+        attributes.rotate_left(1);
+    }
+}
+
 /// Writes a node with what lies below it once more, a value perhaps changed, the attributes perhaps
-/// after everything else: apart from each other, both lists keep their order.
+/// after everything else, and perhaps in another order among themselves.
 fn copy_below(random: &mut Random, world: &World, nodes: &mut Vec<Node>, copied: usize, size: usize) {
     let last = nodes.len();
     let mut inside = vec![false; last];
@@ -263,6 +282,9 @@ fn copy_below(random: &mut Random, world: &World, nodes: &mut Vec<Node>, copied:
     if random.chance(1, 2) {
         order.sort_by_key(|&node| world.classes.of(nodes[node].label) == Some(Class::Attribute));
     }
+    if random.chance(1, 3) {
+        rotate_attributes(world, nodes, &mut order);
+    }
     let mut place = vec![0; last];
     for node in order {
         if nodes.len() >= size {
@@ -274,6 +296,19 @@ fn copy_below(random: &mut Random, world: &World, nodes: &mut Vec<Node>, copied:
         let changed = old.value != 0 && random.chance(1, 10);
         let value = if changed { old.value - 1 } else { old.value };
         nodes.push(Node { parent, label: old.label, value });
+    }
+}
+
+/// Of each element's attributes the first goes behind the last; no other node of the order moves.
+fn rotate_attributes(world: &World, nodes: &[Node], order: &mut [usize]) {
+    let mut places_of: BTreeMap<u16, Vec<usize>> = BTreeMap::new();
+    for (place, &node) in order.iter().enumerate() {
+        if world.classes.of(nodes[node].label) == Some(Class::Attribute) {
+            places_of.entry(nodes[node].parent).or_default().push(place);
+        }
+    }
+    for places in places_of.values() {
+        places.windows(2).for_each(|two| order.swap(two[0], two[1]));
     }
 }
 

@@ -1,6 +1,6 @@
-//! The second implementation of document 01, written from the document alone (with the readings of
-//! docs/DECISIONS.md) and from no code or definition of the product, so that a misunderstanding has
-//! to be made twice to stay unseen. Plain Rust, the standard library only.
+//! The second implementation of document 01 and of the requests of 02 that have landed, written from the
+//! documents alone (with the readings of docs/DECISIONS.md) and from no code or definition of the product,
+//! so that a misunderstanding has to be made twice to stay unseen. Plain Rust, the standard library only.
 //!
 //! paths: words, joins, validity, inclusion · records: the inputs, checked from the front ·
 //! trees: value equality, keys kept · rules: proof lines · decide: pattern, verdict, evidence ·
@@ -35,7 +35,7 @@ static WRONG: AtomicUsize = AtomicUsize::new(0);
 
 /// What each wrong line does, by its number less one, and the operations of whose answers in the
 /// stream of seed 1 it changes some.
-pub const WRONG_LINES: [(&[u8], &str); 13] = [
+pub const WRONG_LINES: [(&[u8], &str); 14] = [
     (&[INCLUDE, KEEP, CHECK_PROOF, CHECK_TREE, DECIDE], "membership: an any-path consumes at least one label"),
     (&[INCLUDE], "inclusion: 201 and 202 are left out of the labels"),
     (&[KEEP, CHECK_TREE], "value equality: attributes and other children are one list"),
@@ -49,6 +49,7 @@ pub const WRONG_LINES: [(&[u8], &str); 13] = [
     (&[LIST], "listing: a block has 1,023 lines"),
     (&[CHECK_TREE], "counterexample check: the first profile key alone is tried"),
     (&[BODY], "body: the first record has number 1"),
+    (&[KEEP, CHECK_TREE], "value equality: attributes in table order"),
 ];
 
 pub fn choose_wrong_line(number: usize) {

@@ -1,4 +1,4 @@
-//! Trees: what a path reaches, value equality, keys kept (01, "Trees, paths and keys").
+//! Trees: what a path reaches, value equality, keys kept (01, "Trees, paths and keys"; attributes in any order: 02, request 2).
 use super::paths::{is_whole, is_word, places_after, places_at_start, Class, Classes, Places};
 use super::records::{Key, Node, NONE};
 use super::wrong;
@@ -66,7 +66,7 @@ impl<'a> Tree<'a> {
         Some(labels)
     }
 
-    /// Value equality by 01's sentence, with no memory. For small trees.
+    /// Value equality by 01's sentence, with no memory; attributes by 02's "some one-to-one pairing". For small trees.
     pub fn is_equal_by_definition(&self, x: usize, y: usize) -> bool {
         let (a, b) = (&self.nodes[x], &self.nodes[y]);
         if a.label != b.label {
@@ -78,10 +78,25 @@ impl<'a> Tree<'a> {
         let part = |v: usize, wanted: bool| -> Vec<usize> {
             self.children[v].iter().copied().filter(|&child| self.is_attribute(child) == wanted).collect()
         };
-        [true, false].iter().all(|&wanted| {
-            let (xs, ys) = (part(x, wanted), part(y, wanted));
-            xs.len() == ys.len() && xs.iter().zip(&ys).all(|(&a, &b)| self.is_equal_by_definition(a, b))
-        })
+        let (xs, ys) = (part(x, false), part(y, false));
+        self.is_paired(&part(x, true), part(y, true))
+            && xs.len() == ys.len()
+            && xs.iter().zip(&ys).all(|(&a, &b)| self.is_equal_by_definition(a, b))
+    }
+
+    /// Whether some one-to-one pairing of two lists of attributes makes them value-equal: the first gets a mate, the others
+    /// are paired without it. Which mate is taken does not matter, since all of them have its label and its value.
+    fn is_paired(&self, xs: &[usize], mut ys: Vec<usize>) -> bool {
+        match xs.split_first() {
+            None => ys.is_empty(),
+            Some((&x, others)) => match ys.iter().position(|&y| self.is_equal_by_definition(x, y)) {
+                None => false,
+                Some(mate) => {
+                    ys.remove(mate);
+                    self.is_paired(others, ys)
+                }
+            },
+        }
     }
 
     /// Whether the tree keeps a key, by 01's sentence. For small trees.
@@ -200,7 +215,8 @@ fn meet(xs: &[usize], ys: &[usize]) -> bool {
 }
 
 /// Gives value-equal nodes the same number and others different ones. Children stand after their
-/// parents, so from the back each node's children have theirs already.
+/// parents, so from the back each node's children have theirs already. Attributes are paired in any
+/// order exactly when their sorted numbers are the same.
 fn worths(nodes: &[Node], classes: &Classes, children: &[Vec<usize>]) -> Vec<usize> {
     let mut known: HashMap<(u8, u16, Vec<usize>, Vec<usize>), usize> = HashMap::new();
     let mut worth = vec![0; nodes.len()];
@@ -215,6 +231,9 @@ fn worths(nodes: &[Node], classes: &Classes, children: &[Vec<usize>]) -> Vec<usi
             } else {
                 others.push(worth[child]);
             }
+        }
+        if !wrong(14) {
+            attributes.sort_unstable();
         }
         let next = known.len();
         worth[number] = *known.entry((node.label, value, attributes, others)).or_insert(next);

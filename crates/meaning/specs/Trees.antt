@@ -3,7 +3,7 @@ use Prim.Native.Nat.{ℕ, zero, suc, _<_, _-_}
 use mathlib.Core.Path.{_≡_}
 use mathlib.Core.Logic.{_≢_}
 use mathlib.Core.Bool.{Bool, _&&_, not}
-use mathlib.Core.List.{List, [], _∷_}
+use mathlib.Core.List.{List, [], _∷_, List·Permᴰ}
 use lib.Dec.{T, eqb}
 use lib.ListN.{length, getD}
 use Rattle.meaning.specs.Limits.{rootLabel}
@@ -72,12 +72,17 @@ unfoldable pub others : (ℕ → Class) → Table → ℕ → List ℕ
 others κ t v = keep (λ (x : ℕ). eqb (t .parent x) v && not (isAttribute (κ (t .label x)))) (numbers (t .size - 1) 1)
 
 -- "Two nodes are value-equal if the labels are equal and, for attribute or text, the values are equal; for elements, the attributes are
--- pairwise value-equal in table order, equally many, and likewise the other children."
+-- pairwise value-equal .., equally many, and likewise the other children." 02: "attributes are value-equal when some one-to-one pairing
+-- makes them so, a name that occurs twice included. Elements and text keep their order."
 mutual
   pub data Equal (κ : ℕ → Class) (t : Table) : ℕ → ℕ → Type 0 where
     leaves : {x y : ℕ} → t .label x ≡ t .label y → T (not (isElement (κ (t .label x)))) → t .value x ≡ t .value y → Equal κ t x y
     elements : {x y : ℕ} → t .label x ≡ t .label y → T (isElement (κ (t .label x)))
-        → EqualLists κ t (attributes κ t x) (attributes κ t y) → EqualLists κ t (others κ t x) (others κ t y) → Equal κ t x y
+        → EqualSets κ t (attributes κ t x) (attributes κ t y) → EqualLists κ t (others κ t x) (others κ t y) → Equal κ t x y
+
+  -- "some one-to-one pairing": the second list, put into some order, is pairwise equal to the first
+  pub data EqualSets (κ : ℕ → Class) (t : Table) : List ℕ → List ℕ → Type 0 where
+    matched : {xs ys zs : List ℕ} → List·Permᴰ ys zs → EqualLists κ t xs zs → EqualSets κ t xs ys
 
   pub data EqualLists (κ : ℕ → Class) (t : Table) : List ℕ → List ℕ → Type 0 where
     ended : EqualLists κ t [] []

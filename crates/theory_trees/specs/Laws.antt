@@ -3,12 +3,13 @@
 use Prim.Native.Nat.{ℕ, zero, suc, _≤_, _+_}
 use mathlib.Core.Path.{_≡_, refl, sym, _∙_, subst}
 use mathlib.Core.Bool.{Bool, true, false, not}
-use mathlib.Core.List.{List, [], _∷_, List·Memᴰ, List·Memᴰ·head, List·Memᴰ·tail}
+use mathlib.Core.List.{List, [], _∷_, List·Memᴰ, List·Memᴰ·head, List·Memᴰ·tail, List·Permᴰ·trans, Permᴰ·symm}
 use native.Mathlib.Omega.{arith}
 use lib.Dec.{T, T-not}
 use Rattle.meaning.specs.Paths.{Class, isElement, isAttribute}
-use Rattle.meaning.specs.Trees.{Table, IsTree, Child, Down, here, step, attributes, others, Equal, leaves, elements, EqualLists, ended, paired}
+use Rattle.meaning.specs.Trees.{Table, IsTree, Child, Down, here, step, attributes, others, Equal, leaves, elements, EqualSets, matched, EqualLists, ended, paired}
 use Rattle.theory_trees.specs.Below.{ParentsSmaller, child-greater}
+use Rattle.theory_trees.specs.Matching.{carried, perm-mem, lists-sets}
 use Rattle.theory_trees.specs.Children.{attribute-child, child-attribute, other-child, child-other}
 
 module _ {κ : ℕ → Class} {t : Table} where
@@ -30,7 +31,10 @@ module _ {κ : ℕ → Class} {t : Table} where
     pub equal-symmetric : {x y : ℕ} → Equal κ t x y → Equal κ t y x
     equal-symmetric (leaves l n v) = leaves (sym l) (subst (λ (k : ℕ). T (not (isElement (κ k)))) l n) (sym v)
     equal-symmetric (elements l e a o) =
-        elements (sym l) (subst (λ (k : ℕ). T (isElement (κ k))) l e) (lists-symmetric a) (lists-symmetric o)
+        elements (sym l) (subst (λ (k : ℕ). T (isElement (κ k))) l e) (sets-symmetric a) (lists-symmetric o)
+
+    sets-symmetric : {xs ys : List ℕ} → EqualSets κ t xs ys → EqualSets κ t ys xs
+    sets-symmetric (matched p e) = let c = carried (Permᴰ·symm p) (lists-symmetric e) in matched (c .order) (c .equal)
 
     lists-symmetric : {xs ys : List ℕ} → EqualLists κ t xs ys → EqualLists κ t ys xs
     lists-symmetric ended = ended
@@ -43,7 +47,12 @@ module _ {κ : ℕ → Class} {t : Table} where
         absurd (T-not (isElement (κ (t .label x))) n (subst (λ (k : ℕ). T (isElement (κ k))) (sym l) e′))
     equal-transitive {x} (elements l e a o) (leaves l′ n′ v′) =
         absurd (T-not (isElement (κ (t .label x))) (subst (λ (k : ℕ). T (not (isElement (κ k)))) (sym l) n′) e)
-    equal-transitive (elements l e a o) (elements l′ e′ a′ o′) = elements (l ∙ l′) e (lists-transitive a a′) (lists-transitive o o′)
+    equal-transitive (elements l e a o) (elements l′ e′ a′ o′) = elements (l ∙ l′) e (sets-transitive a a′) (lists-transitive o o′)
+
+    sets-transitive : {xs ys zs : List ℕ} → EqualSets κ t xs ys → EqualSets κ t ys zs → EqualSets κ t xs zs
+    sets-transitive (matched p e) (matched q f) =
+        let c = carried p f in
+        matched (List·Permᴰ·trans q (c .order)) (lists-transitive e (c .equal))
 
     lists-transitive : {xs ys zs : List ℕ} → EqualLists κ t xs ys → EqualLists κ t ys zs → EqualLists κ t xs zs
     lists-transitive ended ended = ended
@@ -59,7 +68,7 @@ module _ {κ : ℕ → Class} {t : Table} where
     where
       go : (b : Bool) → isElement (κ (t .label x)) ≡ b → Equal κ t x x
       go true e =
-          elements refl (subst T (sym e) tt) (lists-same (attributes κ t x) (λ y m. h y (attribute-child κ t m .0)))
+          elements refl (subst T (sym e) tt) (lists-sets (lists-same (attributes κ t x) (λ y m. h y (attribute-child κ t m .0))))
           (lists-same (others κ t x) (λ y m. h y (other-child κ t m .0)))
       go false e = leaves refl (subst (λ (b : Bool). T (not b)) (sym e) tt) refl
 
@@ -95,6 +104,11 @@ module _ {κ : ℕ → Class} {t : Table} where
       let s = list-mate r m in
       record { node = s .node; among = List·Memᴰ·tail (s .among); equal = s .equal }
 
+  set-mate : {x : ℕ} {xs ys : List ℕ} → EqualSets κ t xs ys → List·Memᴰ x xs → ListMate κ t ys x
+  set-mate (matched p e) m =
+      let s = list-mate e m in
+      record { node = s .node; among = perm-mem (Permᴰ·symm p) (s .among); equal = s .equal }
+
   -- a node that has a child is an element
   parent-element : IsTree κ t → {v x : ℕ} → Child t v x → T (isElement (κ (t .label v)))
   unfolding isElement
@@ -108,7 +122,7 @@ module _ {κ : ℕ → Class} {t : Table} where
     where
       go : (k : Bool) → isAttribute (κ (t .label x)) ≡ k → ChildMate κ t b x
       go true h =
-          let m = list-mate ats (child-attribute κ t c (subst T (sym h) tt)) in
+          let m = set-mate ats (child-attribute κ t c (subst T (sym h) tt)) in
           record { node = m .node; child = attribute-child κ t (m .among) .0; equal = m .equal }
       go false h =
           let m = list-mate os (child-other κ t c (subst (λ (k : Bool). T (not k)) (sym h) tt)) in
@@ -128,7 +142,7 @@ module _ {κ : ℕ → Class} {t : Table} where
 
   pub equal-elements : {x y : ℕ} → t .label x ≡ t .label y → T (isElement (κ (t .label x)))
       → EqualLists κ t (attributes κ t x) (attributes κ t y) → EqualLists κ t (others κ t x) (others κ t y) → Equal κ t x y
-  equal-elements l e ats os = elements l e ats os
+  equal-elements l e ats os = elements l e (lists-sets ats) os
 
   -- 5. "own attribute: equal elements that each have exactly one attribute labelled 202 have equal 202-attributes", for any label and any
   -- child: that b has no other one is enough

@@ -1,6 +1,8 @@
 -- ARGUMENT 2: trees as tables, reach, and the laws of value equality.
 pub mod Below
 pub mod Children
+pub mod Matching
+pub mod Counting
 pub mod Laws
 pub mod Climb
 pub mod Reach

@@ -11,6 +11,7 @@ use Rattle.meaning.specs.Trees.{Table, Child, attributes, others, Equal, leaves
 use Rattle.theory_paths.specs.Bools.{eqb-of}
 use Rattle.theory_trees.specs.Below.{ParentsSmaller, child-greater}
 use Rattle.theory_trees.specs.Children.{attribute-child, other-child}
+use Rattle.theory_trees.specs.Counting.{sameCounts, counts-sets, sets-counts}
 use Rattle.theory_trees.specs.Climb.{T-dec}
 
 -- two lists of nodes, pair by pair
@@ -26,7 +27,7 @@ sameDown κ t zero x y = false
 sameDown κ t (suc left) x y =
     elim (eqb (t .label x) (t .label y)) [
       | true ↦ elim (isElement (κ (t .label x))) [
-        | true ↦ elim (samePairs (sameDown κ t left) (attributes κ t x) (attributes κ t y)) [
+        | true ↦ elim (sameCounts t (attributes κ t x) (attributes κ t y)) [
           | true ↦ samePairs (sameDown κ t left) (others κ t x) (others κ t y)
           | false ↦ false
         ]
@@ -68,11 +69,11 @@ module _ {κ : ℕ → Class} {t : Table} where
   down-sound zero x y h = absurd h
   down-sound (suc left) x y h =
       go (eqb (t .label x) (t .label y)) refl (isElement (κ (t .label x))) refl
-      (samePairs (sameDown κ t left) (attributes κ t x) (attributes κ t y)) refl
+      (sameCounts t (attributes κ t x) (attributes κ t y)) refl
       (pairs-sound (sameDown κ t left) (down-sound left)) h
     where
       go : (a : Bool) → eqb (t .label x) (t .label y) ≡ a → (b : Bool) → isElement (κ (t .label x)) ≡ b
-          → (c : Bool) → samePairs (sameDown κ t left) (attributes κ t x) (attributes κ t y) ≡ c
+          → (c : Bool) → sameCounts t (attributes κ t x) (attributes κ t y) ≡ c
           → ((xs ys : List ℕ) → T (samePairs (sameDown κ t left) xs ys) → EqualLists κ t xs ys)
           → T (elim a [
             | true ↦ elim b [
@@ -84,7 +85,8 @@ module _ {κ : ℕ → Class} {t : Table} where
           → Equal κ t x y
       go true e true f true g r h =
           elements (eqb→eq (t .label x) (t .label y) (subst T (sym e) tt)) (subst T (sym f) tt)
-          (r (attributes κ t x) (attributes κ t y) (subst T (sym g) tt)) (r (others κ t x) (others κ t y) h)
+          (counts-sets κ t (attributes κ t x) (attributes κ t y) (λ z m. attribute-child κ t m .1) (subst T (sym g) tt))
+          (r (others κ t x) (others κ t y) h)
       go true e true f false g r h = absurd h
       go true e false f c g r h =
           leaves (eqb→eq (t .label x) (t .label y) (subst T (sym e) tt)) (subst (λ (b : Bool). T (not b)) (sym f) tt)
@@ -106,8 +108,8 @@ module _ {κ : ℕ → Class} {t : Table} where
       let deeper : (z w : ℕ) → Child t x z → Equal κ t z w → T (sameDown κ t left z w) =
       λ z w c q. let g = child-greater small c in let i = c .inside in down-complete small left z w (omega arith) (omega arith) q in
       go (eqb (t .label x) (t .label y)) (eqb-of (t .label x) (t .label y) l) (isElement (κ (t .label x))) e
-      (samePairs (sameDown κ t left) (attributes κ t x) (attributes κ t y))
-      (pairs-complete (sameDown κ t left) ats (λ z w m q. deeper z w (attribute-child κ t m .0) q))
+      (sameCounts t (attributes κ t x) (attributes κ t y))
+      (sets-counts κ t (attributes κ t x) (attributes κ t y) (λ z m. attribute-child κ t m .1) ats)
       (samePairs (sameDown κ t left) (others κ t x) (others κ t y))
       (pairs-complete (sameDown κ t left) os (λ z w m q. deeper z w (other-child κ t m .0) q))
     where

@@ -16,7 +16,7 @@ use Rattle.theory_trees.specs.Laws.{equal-symmetric, equal-transitive, equal-re
 use Rattle.tree_nodes.specs.Seek.{left, left-falls}
 use Rattle.tree_nodes.specs.Decides.{Decides}
 use Rattle.tree_nodes.specs.Links.{LeastChild, Nexts}
-use Rattle.tree_equal.specs.Classed.{Classed}
+use Rattle.tree_equal.specs.Classed.{Classed, ClassedFrom}
 use Rattle.tree_classes.specs.Chain.{byClass, next-in}
 
 -- Value-equal nodes have equal weights
@@ -51,16 +51,6 @@ pub record ClassIs (κ : ℕ → Class) (t : Table) (class : List ℕ) (x r : �
   pub equal : Equal κ t r x
   pub self : x < r → getD class r 0 ≡ r
   pub one : (k : ℕ) → x < k → k < t .size → Equal κ t k x → getD class k 0 ≡ r
-
--- The classes of the nodes from number i on
-pub record ClassedFrom (κ : ℕ → Class) (t : Table) (class : List ℕ) (i : ℕ) : Type 0 where
-  pub long : length class ≡ 4096
-  pub root : getD class 0 0 ≡ 0
-  pub above : (u : ℕ) → i ≤ u → u < t .size → u ≤ getD class u 0
-  pub inside : (u : ℕ) → i ≤ u → u < t .size → getD class u 0 < t .size
-  pub self : (u : ℕ) → i ≤ u → u < t .size → getD class (getD class u 0) 0 ≡ getD class u 0
-  pub equal : (u : ℕ) → i ≤ u → u < t .size → Equal κ t (getD class u 0) u
-  pub one : (u v : ℕ) → i ≤ u → u < t .size → i ≤ v → v < t .size → Equal κ t u v → getD class u 0 ≡ getD class v 0
 
 pub classed-none : (κ : ℕ → Class) (t : Table) (class : List ℕ) (n : ℕ) → n ≡ t .size → length class ≡ 4096 → ((i : ℕ) → getD class i 0 ≡ 0)
     → ClassedFrom κ t class n

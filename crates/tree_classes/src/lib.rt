@@ -13,8 +13,8 @@ ghost use Rattle.tree_nodes.specs.FileTable.{fileTable, classBy};
 ghost use Rattle.tree_nodes.specs.Ready.{Ready};
 ghost use Rattle.tree_nodes.specs.Links.{Nexts};
 ghost use Rattle.tree_nodes.specs.Decides.{Decides};
-ghost use Rattle.tree_equal.specs.Classed.{Classed};
-ghost use Rattle.tree_classes.specs.Leaders.{Weighed, Sorted, ClassIs, ClassedFrom};
+ghost use Rattle.tree_equal.specs.Classed.{Classed, ClassedFrom};
+ghost use Rattle.tree_classes.specs.Leaders.{Weighed, Sorted, ClassIs};
 ghost use Rattle.tree_classes.specs.Lowest.{LowFrom, NamedTo, Smallest};
 ghost use Rattle.tree_classes.specs.Chain.{byClass};
 
@@ -47,17 +47,19 @@ fn alike(
     first: &[u16; 4096],
     next: &[u16; 4096],
     weight: &[u32; 4096],
+    class: &[u16; 4096],
+    known: usize,
     x: usize,
     y: usize,
 ) -> bool
     requires { ⌜ Ready (now classes) (now tree) (now first) (now next) × Weighed (classBy (now classes)) (fileTable (now tree)) (now weight) ⌝ }
-    requires { ⌜ (x < fileTable (now tree) .size) × (y < fileTable (now tree) .size) ⌝ }
+    requires { ⌜ ClassedFrom (classBy (now classes)) (fileTable (now tree)) (now class) known × (x < fileTable (now tree) .size) × (y < fileTable (now tree) .size) ⌝ }
     ensures { λ r. ⌜ Decides (Equal (classBy (now (classes .entry))) (fileTable (now (tree .entry))) x y) r ⌝ }
 {
     if weight[x] != weight[y] {
         return false;
     }
-    node_eq(tree, classes, first, next, x, y)
+    node_eq(tree, classes, first, next, class, known, x, y)
 }
 
 // The class of the next node in the bucket that is equal to x; x itself where there is none.
@@ -79,7 +81,7 @@ fn class_of(
 {
     let mut y = at(chained, x);
     while y != 0 {
-        if alike(tree, classes, first, next, weight, x, y) {
+        if alike(tree, classes, first, next, weight, class, x + 1, x, y) {
             return at(class, y);
         }
         y = at(chained, y);

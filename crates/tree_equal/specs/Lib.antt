@@ -2,3 +2,4 @@
 pub mod Nodes
 pub mod Lists
 pub mod Classed
+pub mod Counts

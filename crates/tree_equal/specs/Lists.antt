@@ -56,7 +56,7 @@ module _ (κ : ℕ → Class) (t : Table) (attribute : Bool) where
   sought-rest v (suc e) i h s =
       subst (λ (u : ℕ). rest κ t attribute u (suc e) ≡ rest κ t attribute u i) (h (omega arith) .below) (s .passed .same)
 
-  first-list : (first : List ℕ) (v e i : ℕ) → Firsts t first → v < t .size → e ≡ getD first v 0 → Sought κ t attribute e i
+  pub first-list : (first : List ℕ) (v e i : ℕ) → Firsts t first → v < t .size → e ≡ getD first v 0 → Sought κ t attribute e i
       → AtKind κ t attribute v i × (listOf κ t attribute v ≡ rest κ t attribute v i)
   first-list first v e i links b h s =
       let l = subst (LeastChild t v 1) (sym h) (links .link v b) in (
@@ -64,7 +64,7 @@ module _ (κ : ℕ → Class) (t : Table) (attribute : Bool) where
         list-kept κ t attribute v ∙ linked-rest κ t attribute v 1 e (omega arith) l ∙ sought-rest v e i (λ p. l .child p .0) s,
       )
 
-  next-list : (next : List ℕ) (v i e r : ℕ) → Nexts t next → AtKind κ t attribute v i → 0 < i → e ≡ getD next i 0 → Sought κ t attribute e r
+  pub next-list : (next : List ℕ) (v i e r : ℕ) → Nexts t next → AtKind κ t attribute v i → 0 < i → e ≡ getD next i 0 → Sought κ t attribute e r
       → AtKind κ t attribute v r × (rest κ t attribute v i ≡ i ∷ rest κ t attribute v r)
   next-list next v i e r links a p h s =
       let c = a .child p in
@@ -122,7 +122,7 @@ module _ (κ : ℕ → Class) (t : Table) (attribute : Bool) where
   rest-head v (suc i) a p =
       kept-yes (ofKind κ t attribute v) (t .size) (suc i) (a .inside) (kind-yes κ t attribute v (suc i) (a .child p .below) (a .kind p))
 
-  rest-none : (v : ℕ) → rest κ t attribute v 0 ≡ []
+  pub rest-none : (v : ℕ) → rest κ t attribute v 0 ≡ []
   unfolding rest
   rest-none v = refl
 

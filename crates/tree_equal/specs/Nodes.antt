@@ -6,7 +6,7 @@ use mathlib.Core.List.{List}
 use lib.Dec.{T, eqb}
 use borrow.Author.Tests.{eqb-true, eqb-false}
 use Rattle.meaning.specs.Paths.{Class, isElement}
-use Rattle.meaning.specs.Trees.{Table, Equal, leaves, elements, EqualLists, ended, paired}
+use Rattle.meaning.specs.Trees.{Table, Equal, leaves, elements, EqualSets, EqualLists, ended, paired}
 use Rattle.theory_trees.specs.Laws.{equal-label, equal-value}
 use Rattle.tree_nodes.specs.Rest.{listOf}
 use Rattle.tree_nodes.specs.Decides.{Decides}
@@ -29,28 +29,35 @@ module _ (κ : ℕ → Class) (t : Table) (x y : ℕ) where
         no = λ r s. eqb-false v w r (p ∙ equal-value s (is-leaf l e b i h) ∙ sym q);
       }
 
-  -- what an element's equality says of its lists
-  element-lists : T (isElement (κ (t .label x))) → Equal κ t x y → (attribute : Bool) → EqualLists κ t (listOf κ t attribute x) (listOf κ t attribute y)
-  unfolding listOf
-  element-lists h (leaves l n v) attribute = absurd (never (isElement (κ (t .label x))) h n)
+  not-leaf : T (isElement (κ (t .label x))) → T (not (isElement (κ (t .label x)))) → ⊥
+  not-leaf h n = go (isElement (κ (t .label x))) h n
     where
-      never : (b : Bool) → T b → T (not b) → ⊥
-      never true p q = q
-      never false p q = p
-  element-lists h (elements l e a o) true = a
-  element-lists h (elements l e a o) false = o
+      go : (b : Bool) → T b → T (not b) → ⊥
+      go true p q = q
+      go false p q = p
+
+  -- what an element's equality says of its lists
+  element-sets : T (isElement (κ (t .label x))) → Equal κ t x y → EqualSets κ t (listOf κ t true x) (listOf κ t true y)
+  unfolding listOf
+  element-sets h (leaves l n v) = absurd (not-leaf h n)
+  element-sets h (elements l e a o) = a
+
+  element-lists : T (isElement (κ (t .label x))) → Equal κ t x y → EqualLists κ t (listOf κ t false x) (listOf κ t false y)
+  unfolding listOf
+  element-lists h (leaves l n v) = absurd (not-leaf h n)
+  element-lists h (elements l e a o) = o
 
   pub attributes-differ : (l : ℕ) (b r : Bool) → l ≡ t .label x → b ≡ isElement (κ l) → b ≡ true
-      → Decides (EqualLists κ t (listOf κ t true x) (listOf κ t true y)) r → r ≡ false → Decides (Equal κ t x y) false
+      → Decides (EqualSets κ t (listOf κ t true x) (listOf κ t true y)) r → r ≡ false → Decides (Equal κ t x y) false
   attributes-differ l b r e i h d f =
-      record { yes = λ g. absurd (false≢true g); no = λ g q. d .no f (element-lists (is-element l e b i h) q true) }
+      record { yes = λ g. absurd (false≢true g); no = λ g q. d .no f (element-sets (is-element l e b i h) q) }
 
   pub others-decide : (l m : ℕ) (b r s : Bool) → l ≡ t .label x → m ≡ t .label y → l ≡ m → b ≡ isElement (κ l) → b ≡ true
-      → Decides (EqualLists κ t (listOf κ t true x) (listOf κ t true y)) r → r ≡ true
+      → Decides (EqualSets κ t (listOf κ t true x) (listOf κ t true y)) r → r ≡ true
       → Decides (EqualLists κ t (listOf κ t false x) (listOf κ t false y)) s → Decides (Equal κ t x y) s
   unfolding listOf
   others-decide l m b r s e f g i h d k o =
       record {
         yes = λ p. elements (sym e ∙ g ∙ f) (is-element l e b i h) (d .yes k) (o .yes p);
-        no = λ p q. o .no p (element-lists (is-element l e b i h) q false);
+        no = λ p q. o .no p (element-lists (is-element l e b i h) q);
       }

@@ -2,7 +2,7 @@
 use Prim.Native.Nat.{ℕ, zero, suc, _+_, _-_, _*_, _%_, _<_, _≤_}
 use mathlib.Core.Path.{_≡_, refl, sym, _∙_, ap, ap₂, subst}
 use mathlib.Core.Bool.{Bool, true, false, cond, _&&_, not}
-use mathlib.Core.List.{List, [], _∷_}
+use mathlib.Core.List.{List, [], _∷_, List·Permᴰ, List·Permᴰ·nil, List·Permᴰ·cons, List·Permᴰ·swap, List·Permᴰ·trans}
 use native.Mathlib.Omega.{arith}
 use native.Mathlib.Decide.{ℕ-discrete}
 use lib.Dec.{eqb}
@@ -21,6 +21,17 @@ total f weight (suc left) i = cond (f i) (getD weight i 0) 0 + total f weight le
 unfoldable pub sumOf : List ℕ → List ℕ → ℕ
 sumOf weight [] = 0
 sumOf weight (x ∷ xs) = getD weight x 0 + sumOf weight xs
+
+-- in any order
+pub sum-order : (weight : List ℕ) {xs ys : List ℕ} → List·Permᴰ xs ys → sumOf weight xs ≡ sumOf weight ys
+unfolding sumOf
+sum-order weight List·Permᴰ·nil = refl
+sum-order weight (List·Permᴰ·cons e d) = ap₂ (λ (x n : ℕ). getD weight x 0 + n) e (sum-order weight d)
+sum-order weight (List·Permᴰ·swap {a = a} {b = b} {a′ = c} {b′ = d} {l = l} e f) =
+    let p = ap (λ (x : ℕ). getD weight x 0) e in
+    let q = ap (λ (x : ℕ). getD weight x 0) f in
+    omega arith
+sum-order weight (List·Permᴰ·trans d e) = sum-order weight d ∙ sum-order weight e
 
 -- a weight before them does not count
 pub total-set : (f : ℕ → Bool) (weight : List ℕ) (j w left i : ℕ) → j < i → total f (set weight j w) left i ≡ total f weight left i

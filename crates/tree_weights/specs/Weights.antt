@@ -2,7 +2,7 @@
 use Prim.Native.Nat.{ℕ, zero, suc, _+_, _-_, _*_, _/_, _%_, _<_, _≤_}
 use mathlib.Core.Path.{_≡_, refl, sym, _∙_, ap, ap₂, subst}
 use mathlib.Core.Bool.{Bool, true, false, cond, not}
-use mathlib.Core.List.{List, [], _∷_, List·Memᴰ, List·Memᴰ·head, List·Memᴰ·tail}
+use mathlib.Core.List.{List, [], _∷_, List·Memᴰ, List·Memᴰ·head, List·Memᴰ·tail, Permᴰ·symm}
 use native.Mathlib.Omega.{arith}
 use native.Mathlib.Nat.{mul-le-mul-left, le-of-lt}
 use native.Mathlib.Decide.{ℕ-discrete}
@@ -10,11 +10,12 @@ use lib.Dec.{T}
 use lib.ListN.{length, getD, set, length-set}
 use lib.Seq.{getD-set-same, getD-set-other}
 use Rattle.meaning.specs.Paths.{Class, isElement}
-use Rattle.meaning.specs.Trees.{Table, IsTree, Child, attributes, others, Equal, leaves, elements, EqualLists, ended, paired}
+use Rattle.meaning.specs.Trees.{Table, IsTree, Child, attributes, others, Equal, leaves, elements, EqualSets, matched, EqualLists, ended, paired}
 use Rattle.theory_trees.specs.Children.{attribute-child, other-child}
 use Rattle.theory_trees.specs.Laws.{equal-label}
+use Rattle.theory_trees.specs.Matching.{perm-mem}
 use Rattle.tree_classes.specs.Leaders.{Weighed}
-use Rattle.tree_weights.specs.Sums.{total, total-set, total-more, total-other, sumOf, childOf, children-split}
+use Rattle.tree_weights.specs.Sums.{total, total-set, total-more, total-other, sumOf, sum-order, childOf, children-split}
 
 abbrev pub range : ℕ
 range = 4294967296
@@ -132,8 +133,11 @@ module _ (κ : ℕ → Class) (t : Table) (weight sums : List ℕ) (l : WeighedF
     equal-weight {x} {y} (elements e n a o) p h q g =
         element-weight x p h n
         ∙ ap₂ (λ (k s : ℕ). mix k 0 (s % range)) e
-        (ap₂ (λ (c d : ℕ). c + d) (lists-weight a (attributes-inside x) (attributes-inside y)) (lists-weight o (others-inside x) (others-inside y)))
+        (ap₂ (λ (c d : ℕ). c + d) (sets-weight a (attributes-inside x) (attributes-inside y)) (lists-weight o (others-inside x) (others-inside y)))
         ∙ sym (element-weight y q g (subst (λ (k : ℕ). T (isElement (κ k))) e n))
+
+    sets-weight : {xs ys : List ℕ} → EqualSets κ t xs ys → Inside xs → Inside ys → sumOf weight xs ≡ sumOf weight ys
+    sets-weight (matched p e) h g = lists-weight e h (λ z m. g z (perm-mem (Permᴰ·symm p) m)) ∙ sym (sum-order weight p)
 
     lists-weight : {xs ys : List ℕ} → EqualLists κ t xs ys → Inside xs → Inside ys → sumOf weight xs ≡ sumOf weight ys
     lists-weight ended h g = refl

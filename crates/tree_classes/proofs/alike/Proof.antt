@@ -24,11 +24,11 @@ element-copy-out-if1-2 c = search needs
 
 -- src/lib.rt:56:9
 returns : tie.Need-returns
-returns c = weighs-other _ _ _ _ _ (c .before .before .before .before .pre .0 .1) (c .before .before .before .before .pre .1 .0) (c .before .before .before .before .pre .1 .1) (c .if1 .taken)
+returns c = weighs-other _ _ _ _ _ (c .before .before .before .before .pre .0 .1) (c .before .before .before .before .pre .1 .1) (c .before .before .before .before .pre .1 .2) (c .if1 .taken)
 
 -- src/lib.rt:58:5
 node-eq-requires : tie.Need-node-eq-requires
-node-eq-requires c κs = search needs
+node-eq-requires c κs = let p = c .before .before .before .before .pre in ((p .0 .0, p .1 .0), (p .1 .1, p .1 .2))
 
 -- src/lib.rt:42:1
 returns-2 : tie.Need-returns-2

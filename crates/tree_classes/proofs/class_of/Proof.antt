@@ -25,9 +25,13 @@ at-requires c κs = let p = c .before .pre in let f = p .0 .0 .tree .few in let 
 loop-holds : tie.Need-loop-holds Inv-loop μ-loop
 loop-holds c = let p = c .before .before .pre in seeking-start _ _ _ _ _ (p .0 .1) (p .1 .0 .0) (p .1 .0 .1) _ _ (p .1 .1 .1) (p .1 .1 .2) (c .at .ensures .0)
 
+-- src/lib.rt:86:60
+add-alike : tie.Need-add-alike Inv-loop μ-loop
+add-alike c = let p = c .before .before .before .before .pre in let f = p .0 .0 .tree .few in let h = p .1 .1 .2 in omega arith
+
 -- src/lib.rt:80:12
 alike-requires : tie.Need-alike-requires Inv-loop μ-loop
-alike-requires c κs = let p = c .before .before .before .before .pre in (p .0, (p .1 .1 .2, c .before .loop .inv .inside))
+alike-requires c κs = let p = c .before .before .before .before .pre in (p .0, (p .1 .1 .0, p .1 .1 .2, c .before .loop .inv .inside))
 
 -- src/lib.rt:81:13
 at-requires-2 : tie.Need-at-requires-2 Inv-loop μ-loop
@@ -61,6 +65,7 @@ class-of-spec =
     μ-loop
     at-requires
     loop-holds
+    add-alike
     alike-requires
     at-requires-2
     returns

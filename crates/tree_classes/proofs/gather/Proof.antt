@@ -2,7 +2,8 @@ use Prim.Native.Nat.{ℕ, _+_, _-_, _≤_, _<_}
 use native.Mathlib.Omega.{arith}
 use Rattle.tree_nodes.specs.FileTable.{fileTable, classBy}
 use Rattle.tree_nodes.specs.Ready.{parents-smaller, bytes-tree}
-use Rattle.tree_classes.specs.Leaders.{ClassedFrom, classed-none, classed-step, classed-all, classed-at, sorted-at, chained-at, sorted-inside}
+use Rattle.tree_equal.specs.Classed.{ClassedFrom}
+use Rattle.tree_classes.specs.Leaders.{classed-none, classed-step, classed-all, classed-at, sorted-at, chained-at, sorted-inside}
 use Rattle.tree_classes.proofs.gather.Statement.{statement}
 use Rattle.tree_classes.proofs.gather.Tie as tie
 use Rattle.tree_classes.proofs.gather.Reads as reads
