@@ -1,9 +1,10 @@
 -- Heads of records: what too_many's tests say, return by return. Numbers of any width, read from the back.
-use Prim.Native.Nat.{ℕ, zero, suc, _+_, _-_, _*_, _<_, _≤_}
+use Prim.Native.Nat.{ℕ, zero, suc, _+_, _-_, _*_, _^_, _<_, _≤_}
 use mathlib.Core.Path.{_≡_, refl, sym, ap, _∙_}
 use mathlib.Core.Bool.{false}
 use mathlib.Core.List.{List, [], _∷_}
 use native.Mathlib.Omega.{arith}
+use native.Mathlib.Nat.{pow-zero, pow-suc, pow-le-pow-right}
 use lib.Dec.{leb}
 use lib.ListN.{length, getD, drop, drop-of-length-le}
 use lib.Seq.{drop-cons}
@@ -24,54 +25,43 @@ module _ (l : List ℕ) (kind limit count : ℕ) where
   unfolding tooMany recordKind
   many-counted h e = rw (le-leb 4 (length l) h, eq-eqb (word l 2) kind e)
 
--- so many values have so many bytes
-unfoldable pub power : ℕ → ℕ
-power zero = 1
-power (suc width) = 256 * power width
-
 -- From byte i on the bytes say n
 pub record Numbered (l : List ℕ) (i n : ℕ) : Type 0 where
   pub inside : i ≤ length l
   pub says : n ≡ number (drop i l)
-  pub below : n < power (length l - i)
+  pub below : n < 256 ^ (length l - i)
 
-power-most : (k : ℕ) → k ≤ 4 → power k ≤ 4294967296
-unfolding power
-power-most zero h = omega arith
-power-most (suc zero) h = omega arith
-power-most (suc (suc zero)) h = omega arith
-power-most (suc (suc (suc zero))) h = omega arith
-power-most (suc (suc (suc (suc zero)))) h = omega arith
-power-most (suc (suc (suc (suc (suc k))))) h = absurd (omega arith)
+four-most : (k : ℕ) → k ≤ 4 → 256 ^ k ≤ 4294967296
+four-most k h = pow-le-pow-right (let q : 0 < 256 = omega arith in q) h
 
 module _ (l : List ℕ) (four : length l ≤ 4) where
   pub numbered-none : Numbered l (length l) 0
-  unfolding number power
+  unfolding number
   numbered-none =
       let e : length l - length l ≡ 0 = omega arith in
       record {
         inside = omega arith;
         says = sym (ap number (drop-of-length-le l {i = length l} (omega arith)));
-        below = let q = ap power e in omega arith;
+        below = let q = ap (λ (k : ℕ). 256 ^ k) e in let p = pow-zero 256 in omega arith;
       }
 
   pub numbered-small : (i n : ℕ) → Numbered l i n → n < 4294967296
-  numbered-small i n c = let b = c .below in let m = power-most (length l - i) (omega arith) in omega arith
+  numbered-small i n c = let b = c .below in let m = four-most (length l - i) (omega arith) in omega arith
 
   pub numbered-more : (i n b : ℕ) → 0 < i → Numbered l i n → b ≡ getD l (i - 1) 0 → b < 256 → Numbered l (i - 1) (256 * n + b)
-  unfolding number power
+  unfolding number
   numbered-more zero n b h c e s = absurd (omega arith)
   numbered-more (suc i) n b h c e s =
       let at : suc i - 1 ≡ i = omega arith in
       let front : b ≡ getD l i 0 = e ∙ ap (λ (k : ℕ). getD l k 0) at in
       let more : length l - i ≡ suc (length l - suc i) = let k = c .inside in omega arith in
-      let fits = ap power more in
+      let fits = ap (λ (k : ℕ). 256 ^ k) more ∙ pow-suc 256 (length l - suc i) in
       let is : 256 * n + b ≡ number (drop i l) =
       (let k = c .says in let m = ap number (drop-cons l i 0 (let j = c .inside in omega arith)) in omega arith) in
       record {
         inside = let k = c .inside in omega arith;
         says = is ∙ ap (λ (k : ℕ). number (drop k l)) (sym at);
-        below = let q = ap (λ (k : ℕ). power (length l - k)) at in let k = c .below in omega arith;
+        below = let q = ap (λ (k : ℕ). 256 ^ (length l - k)) at in let k = c .below in omega arith;
       }
 
   pub numbered-all : (i n : ℕ) → i ≤ 0 → Numbered l i n → n ≡ number l

@@ -20,7 +20,6 @@ use Rattle.theory_paths.specs.Bools.{true-of, or-right}
 use Rattle.theory_paths.specs.Good.{GoodLabels, GoodKey, class-root}
 use Rattle.theory_records.specs.TreeFiles.{NodeBelow, NodesGood}
 use Rattle.meaning.specs.Records.{valueBytes}
-use Rattle.theory_records.specs.Bytes.{range}
 use Rattle.theory_records.specs.Written.{NodeFits}
 use Rattle.theory_records.specs.WrittenInputs.{tree-written-sound, nodes-in-written}
 use Rattle.theory_counter.specs.PatternLaws.{pattern-length, pattern-known}
@@ -89,7 +88,7 @@ module _ (labels : List Label) (good : GoodLabels labels) (asked : Key) (g : Goo
         value =
             let v = value-within (classOf labels) asked u (inside labels good inProfile asked g u h) n l in
             let m = written-most (classOf labels) labels asked g u q (le-of-lt h) in
-            unfold valueBytes range in omega arith;
+            unfold valueBytes in omega arith;
       }
     where
       above : (n : ℕ) → n < length (writtenNodes (classOf labels) asked u) → getD (writtenNodes (classOf labels) asked u) n noNode .parent < 65536

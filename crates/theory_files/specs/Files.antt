@@ -4,7 +4,7 @@ use mathlib.Core.Path.{_≡_, refl, sym, _∙_, ap, ap₂, subst, fun-ext}
 use mathlib.Core.Bool.{Bool, true, false, cond}
 use mathlib.Core.List.{List, []}
 use native.Mathlib.Omega.{arith}
-use native.Mathlib.Nat.{mul-le-mul-left}
+use native.Mathlib.Nat.{mul-le-mul-left, div-eq-of-eq-mul-right}
 use native.Mathlib.Decide.{decLt}
 use lib.Dec.{T, eqb}
 use borrow.Author.Tests.{ne-eqb}
@@ -17,7 +17,7 @@ use Rattle.meaning.specs.Refusals.{nodeKindIn, treeRefusal, nodesIn}
 use Rattle.theory_paths.specs.Good.{GoodLabels, undeclared-class, undeclared-high}
 use Rattle.theory_records.specs.TreeFiles.{stride, nodeAt, TreeAccepted, tree-accepts, tree-is-tree}
 use Rattle.shapes.specs.Classes.{Tabled, classBy, class-tabled}
-use Rattle.tree_nodes.specs.FileTable.{fileStride, fileTable, two-strides, stride-counts, TreeBytes}
+use Rattle.tree_nodes.specs.FileTable.{fileStride, fileTable, stride-least, TreeBytes}
 
 -- a label beyond the table is an element by both
 beyond-table : (classes : List ℕ) (n : ℕ) → length classes ≤ 256 → 256 ≤ n → classBy classes n ≡ element
@@ -78,7 +78,7 @@ module _ (labels : List Label) (bytes : List ℕ) (accepted : treeRefusal labels
   pub file-table : fileTable bytes ≡ tableOf (nodesIn labels bytes)
   unfolding fileTable tableOf nodeAt w
   file-table =
-      let size = stride-counts (fileStride bytes) (length bytes) (length (nodesIn labels bytes)) (two-strides bytes) count in
+      let size = div-eq-of-eq-mul-right (let q : 0 < fileStride bytes = omega (arith, stride-least bytes) in q) count in
       λ i. record {
         size = size i;
         parent = λ n. ap (λ (x : Node). x .parent) (node-same n) i;

@@ -1,5 +1,5 @@
 -- Each kind of record: an accepted record's bytes are its encoding, and an encoding is read back.
-use Prim.Native.Nat.{ℕ, zero, suc, _+_, _*_, _/_, _%_, _-_, _≤_, _<_}
+use Prim.Native.Nat.{ℕ, zero, suc, _+_, _*_, _/_, _%_, _-_, _^_, _≤_, _<_}
 use mathlib.Core.Path.{_≡_, refl, sym, subst, ap, _∙_}
 use mathlib.Core.Logic.{_⊎_, inl, inr}
 use mathlib.Core.Bool.{Bool, true, false, cond, _&&_}
@@ -16,7 +16,7 @@ use Rattle.meaning.specs.Rules.{Line}
 use Rattle.meaning.specs.Records.{word, wordBytes, recordLength, recordKind, recordBody, recordBytes, readLabel, labelBytes, keyIn, readKey, keyBody, keyBytes, readNode, nodeBytes, valueBytes, number, numberBytes, readLine, lineBytes, isSome, bodyEnds}
 use Rattle.meaning.specs.Refusals.{whole}
 use Rattle.theory_records.specs.Tests.{both, and-true}
-use Rattle.theory_records.specs.Bytes.{Bytes, bytes-drop, bytes-take, wordBytes-word, word-wordBytes, range, number-bytes, bytes-number}
+use Rattle.theory_records.specs.Bytes.{Bytes, bytes-drop, bytes-take, wordBytes-word, word-wordBytes, number-bytes, bytes-number}
 use Rattle.theory_records.specs.Heads.{Whole, record-written, written-length, written-kind, written-body, written-rest, bytes-length, body-length}
 use Rattle.theory_records.specs.KeyBodies.{key-in-written, key-in-read, key-is-read}
 
@@ -33,20 +33,19 @@ ends-key l w k = subst (λ (kind : ℕ). bodyEnds kind (recordBody l) ≡ true) 
 abbrev pub IsNodeKind : ℕ → Type 0
 IsNodeKind kind = (kind ≡ 3) ⊎ (kind ≡ 5)
 
-pub ends-node : {kind : ℕ} → IsNodeKind kind → (l : List ℕ) → Whole l → recordKind l ≡ kind → length (recordBody l) ≡ 3 + valueBytes kind
+-- and both ask the same of the body, over the value's width
+node-asks : {kind : ℕ} → IsNodeKind kind → (body : List ℕ) → bodyEnds kind body ≡ eqb (length body) (3 + valueBytes kind)
 unfolding bodyEnds
-ends-node {kind} (inl e) l w k =
-    eqb-true _ _ (subst (λ (m : ℕ). bodyEnds m (recordBody l) ≡ true) (k ∙ e) (w .ends)) ∙ ap (λ (m : ℕ). 3 + valueBytes m) (sym e)
-ends-node {kind} (inr e) l w k =
-    eqb-true _ _ (subst (λ (m : ℕ). bodyEnds m (recordBody l) ≡ true) (k ∙ e) (w .ends)) ∙ ap (λ (m : ℕ). 3 + valueBytes m) (sym e)
+node-asks (inl e) body = rw e
+node-asks (inr e) body = rw e
+
+pub ends-node : {kind : ℕ} → IsNodeKind kind → (l : List ℕ) → Whole l → recordKind l ≡ kind → length (recordBody l) ≡ 3 + valueBytes kind
+ends-node isNode l w k =
+    eqb-true _ _ (sym (node-asks isNode (recordBody l)) ∙ subst (λ (kind : ℕ). bodyEnds kind (recordBody l) ≡ true) k (w .ends))
 
 -- a body of so many bytes is a node's
 pub node-ends : {kind : ℕ} → IsNodeKind kind → (body : List ℕ) → length body ≡ 3 + valueBytes kind → bodyEnds kind body ≡ true
-unfolding bodyEnds
-node-ends (inl e) body h =
-    subst (λ (m : ℕ). bodyEnds m body ≡ true) (sym e) (eq-eqb _ _ (h ∙ ap (λ (m : ℕ). 3 + valueBytes m) e))
-node-ends (inr e) body h =
-    subst (λ (m : ℕ). bodyEnds m body ≡ true) (sym e) (eq-eqb _ _ (h ∙ ap (λ (m : ℕ). 3 + valueBytes m) e))
+node-ends isNode body h = node-asks isNode body ∙ eq-eqb _ _ h
 
 pub kind-small : {kind : ℕ} → IsNodeKind kind → kind < 65536
 kind-small (inl e) = omega arith
@@ -146,7 +145,7 @@ written-whole kind body rest fits small =
     let three : leb (recordLength all) (length all) ≡ true = le-leb (recordLength all) (length all) (omega arith) in
     rw (one, two, three, written-kind kind body rest small, written-body kind body rest fits)
 
-pub node-read : (width : ℕ) (n : Node) → n .parent < 65536 → n .value < range width
+pub node-read : (width : ℕ) (n : Node) → n .parent < 65536 → n .value < 256 ^ width
     → readNode (wordBytes (n .parent) ++ (n .label ∷ numberBytes width (n .value))) ≡ n
 unfolding readNode word wordBytes
 node-read width n p v =

@@ -1,5 +1,5 @@
 -- What is written is read back: a walk over encodings accepts each and gives what was encoded.
-use Prim.Native.Nat.{ℕ, zero, suc, _+_, _*_, _≤_, _<_}
+use Prim.Native.Nat.{ℕ, zero, suc, _+_, _*_, _^_, _≤_, _<_}
 use mathlib.Core.Path.{_≡_, refl, sym, subst, ap, _∙_}
 use mathlib.Core.Bool.{Bool, true, false, cond, _&&_, _||_, not}
 use mathlib.Core.List.{List, [], _∷_, _++_, map, flatten, append-assoc, append-nil}
@@ -23,7 +23,7 @@ use Rattle.theory_records.specs.Heads.{written-length, written-kind, wri
 use Rattle.theory_records.specs.KeyBodies.{key-in-read, key-is-read}
 use Rattle.theory_records.specs.Judged.{node-passes, line-passes, question-passes}
 use Rattle.theory_records.specs.Encodings.{IsNodeKind, node-ends, kind-small, value-small, written-whole, node-read, line-read}
-use Rattle.theory_records.specs.Bytes.{range, number-length}
+use Rattle.theory_records.specs.Bytes.{number-length}
 
 -- what a walk has to know of one encoding in front of a rest
 pub record Reads {S A : Type 0} (tests : S → List ℕ → List (ℕ × Bool)) (next : S → List ℕ → S) (add : S → A → S) (encode : A → List ℕ)
@@ -82,7 +82,7 @@ module _ (kind : ℕ) (body : List ℕ) (fits : 4 + length body < 65536) where
 -- Nodes, of a kind
 pub record NodeFits (kind : ℕ) (x : Node) : Type 0 where
   pub parent : x .parent < 65536
-  pub value : x .value < range (valueBytes kind)
+  pub value : x .value < 256 ^ valueBytes kind
 
 module _ (labels : List Label) where
   abbrev pub nextNode : List Node → List ℕ → List Node

@@ -5,6 +5,7 @@ use mathlib.Core.Logic.{inl, inr}
 use mathlib.Core.Bool.{Bool, true, false, cond, _&&_, _||_, not}
 use mathlib.Core.List.{List, [], _∷_, _++_, map, flatten, append-assoc, append-nil, List·Memᴰ, List·Memᴰ·head, List·Memᴰ·tail}
 use native.Mathlib.Omega.{arith}
+use native.Mathlib.Nat.{mul-le-mul-left, mul-pos}
 use borrow.Author.Tests.{le-leb, le-ltb, lt-ltb}
 use lib.Dec.{leb, ltb, eqb}
 use lib.ListN.{length, getD, drop, length-append, List·getD-append}
@@ -68,6 +69,15 @@ module _ (labels : List Label) where
       let w = number-length (valueBytes kind) (x .value) in
       omega (arith, nodes-size kind nodes, length-append (nodeBytes kind x) (flatten (map (nodeBytes kind) nodes)))
 
+  -- "still 4,096 nodes": they fill the limit of either kind
+  limit-full : (kind : ℕ) → treeLimit kind ≡ stride kind * 4096
+  unfolding treeLimit stride valueBytes
+  limit-full kind = go (eqb kind 5)
+    where
+      go : (b : Bool) → cond b 45056 36864 ≡ (7 + cond b 4 2) * 4096
+      go true = refl
+      go false = refl
+
   -- the kind of what is written is that of its first node
   kind-written : {kind : ℕ} → IsNodeKind kind → (nodes : List Node) → 0 < length nodes → nodeKindIn (flatten (map (nodeBytes kind) nodes)) ≡ kind
   unfolding nodeKindIn flatten nodeBytes
@@ -103,17 +113,11 @@ module _ (labels : List Label) where
     tree-written-sound =
         let bytes : List ℕ = flatten (map (nodeBytes kind) nodes) in
         let size = nodes-size kind nodes in
-        let within : length bytes ≤ treeLimit kind = subst (λ (n : ℕ). n ≤ treeLimit kind) (sym size) (room isNode) in
-        let some-bytes : 0 < length bytes = subst (λ (n : ℕ). 0 < n) (sym size) (any isNode) in
+        let room = mul-le-mul-left (stride kind) few in
+        let within : length bytes ≤ treeLimit kind = omega (arith, limit-full kind) in
+        let any = mul-pos (let q : 0 < stride kind = omega (arith, stride-least kind) in q) some in
+        let some-bytes : 0 < length bytes = omega arith in
         rw (kind-written isNode nodes some, le-ltb (treeLimit kind) (length bytes) within, tree-walked-written, some-empty bytes some-bytes)
-      where
-        room : IsNodeKind kind → stride kind * length nodes ≤ treeLimit kind
-        room (inl e) = subst (λ (k : ℕ). stride k * length nodes ≤ treeLimit k) (sym e) (unfold stride valueBytes treeLimit in omega arith)
-        room (inr e) = subst (λ (k : ℕ). stride k * length nodes ≤ treeLimit k) (sym e) (unfold stride valueBytes treeLimit in omega arith)
-
-        any : IsNodeKind kind → 0 < stride kind * length nodes
-        any (inl e) = subst (λ (k : ℕ). 0 < stride k * length nodes) (sym e) (unfold stride valueBytes in omega arith)
-        any (inr e) = subst (λ (k : ℕ). 0 < stride k * length nodes) (sym e) (unfold stride valueBytes in omega arith)
 
 -- How long a key's body can be
 paths-size : (most : ℕ) (ps : List (List ℕ)) → ((p : List ℕ) → List·Memᴰ p ps → length p ≤ most)

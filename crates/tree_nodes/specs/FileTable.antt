@@ -1,11 +1,10 @@
 -- The table that a tree file's bytes say: "length (2), kind (2), parent (2), label (1), value (2)", or value (4): 9 or 11 bytes a node.
-use Prim.Native.Nat.{ℕ, _+_, _-_, _*_, _/_, _<_, _≤_}
-use mathlib.Core.Path.{_≡_, refl, sym, ap, subst, _∙_}
-use mathlib.Core.Logic.{_≢_, _⊎_, inl, inr}
-use mathlib.Core.Bool.{Bool, true, false, cond, _&&_}
+use Prim.Native.Nat.{ℕ, suc, _+_, _-_, _*_, _/_, _<_, _≤_}
+use mathlib.Core.Path.{_≡_, sym, subst}
+use mathlib.Core.Logic.{_≢_}
 use mathlib.Core.List.{List}
 use native.Mathlib.Omega.{arith}
-use lib.Dec.{leb, eqb}
+use native.Mathlib.Nat.{mul-le-mul-left, mul-div-le}
 use lib.ListN.{length, getD, take, drop}
 use borrow.Author.Tests.{le-leb, lt-leb, eq-eqb, ne-eqb}
 use Rattle.meaning.specs.Limits.{treeNodes, rootLabel}
@@ -28,45 +27,19 @@ fileTable bytes =
       value = λ i. number (take (fileStride bytes - 7) (drop (fileStride bytes * i + 7) bytes));
     }
 
-pub two-strides : (bytes : List ℕ) → (fileStride bytes ≡ 9) ⊎ (fileStride bytes ≡ 11)
-unfolding fileStride valueBytes nodeKindIn
-two-strides bytes = go (leb 4 (length bytes) && eqb (recordKind bytes) 5)
-  where
-    go : (b : Bool) → (7 + cond (eqb (cond b 5 3) 5) 4 2 ≡ 9) ⊎ (7 + cond (eqb (cond b 5 3) 5) 4 2 ≡ 11)
-    go true = inr refl
-    go false = inl refl
+-- the value stands behind the head's four bytes, the parent's two and the label
+pub stride-least : (bytes : List ℕ) → 7 ≤ fileStride bytes
+unfolding fileStride
+stride-least bytes = omega arith
 
--- a node that is counted stands in the bytes
-pub stride-fits : (w n i : ℕ) → (w ≡ 9) ⊎ (w ≡ 11) → i < n / w → w * i + w ≤ n
-stride-fits w n i (inl e) h = subst (λ (k : ℕ). k * i + k ≤ n) (sym e) (let q : i < n / 9 = subst (λ (k : ℕ). i < n / k) e h in omega arith)
-stride-fits w n i (inr e) h = subst (λ (k : ℕ). k * i + k ≤ n) (sym e) (let q : i < n / 11 = subst (λ (k : ℕ). i < n / k) e h in omega arith)
-
-pub stride-counts : (w n m : ℕ) → (w ≡ 9) ⊎ (w ≡ 11) → n ≡ w * m → n / w ≡ m
-stride-counts w n m (inl e) h = ap (λ (k : ℕ). n / k) e ∙ (let q : n ≡ 9 * m = h ∙ ap (λ (k : ℕ). k * m) e in omega arith)
-stride-counts w n m (inr e) h = ap (λ (k : ℕ). n / k) e ∙ (let q : n ≡ 11 * m = h ∙ ap (λ (k : ℕ). k * m) e in omega arith)
-
-pub node-fits : (bytes : List ℕ) (i : ℕ) → i < fileTable bytes .size → fileStride bytes * i + fileStride bytes ≤ length bytes
+-- what the fields' functions know of the bytes: a node that is counted stands in them
+pub told-fits : (bytes : List ℕ) (i w : ℕ) → w ≡ fileStride bytes → i < fileTable bytes .size → (w * i + w ≤ length bytes) × (7 ≤ w)
 unfolding fileTable
-node-fits bytes i h = stride-fits (fileStride bytes) (length bytes) i (two-strides bytes) h
-
-pub stride-least : (bytes : List ℕ) → 9 ≤ fileStride bytes
-stride-least bytes = go (two-strides bytes)
-  where
-    go : (fileStride bytes ≡ 9) ⊎ (fileStride bytes ≡ 11) → 9 ≤ fileStride bytes
-    go (inl e) = omega arith
-    go (inr e) = omega arith
-
-pub stride-most : (bytes : List ℕ) → fileStride bytes ≤ 11
-stride-most bytes = go (two-strides bytes)
-  where
-    go : (fileStride bytes ≡ 9) ⊎ (fileStride bytes ≡ 11) → fileStride bytes ≤ 11
-    go (inl e) = omega arith
-    go (inr e) = omega arith
-
--- what the fields' functions know of the bytes
-pub told-fits : (bytes : List ℕ) (i w : ℕ) → w ≡ fileStride bytes → i < fileTable bytes .size → (w * i + w ≤ length bytes) × (9 ≤ w)
 told-fits bytes i w e h =
-    (subst (λ (k : ℕ). k * i + k ≤ length bytes) (sym e) (node-fits bytes i h), subst (λ (k : ℕ). 9 ≤ k) (sym e) (stride-least bytes))
+    let counted : suc i ≤ length bytes / w = subst (λ (k : ℕ). suc i ≤ length bytes / k) (sym e) h in
+    let before = mul-le-mul-left w counted in
+    let inside = mul-div-le (length bytes) w in
+    (omega arith, subst (λ (k : ℕ). 7 ≤ k) (sym e) (stride-least bytes))
 
 -- one law for each return of `node_kind` and of `bytes_of`
 module _ (bytes : List ℕ) where
