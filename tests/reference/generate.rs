@@ -277,7 +277,7 @@ fn reordered_twins(random: &mut Random, world: &World, nodes: &mut Vec<Node>, ki
     }
 }
 
-/// Writes a node with what lies below it once more, a value perhaps changed, the attributes perhaps
+/// Writes a node with what lies below it once more, a value perhaps changed (one over two bytes in those above), the attributes perhaps
 /// after everything else, and perhaps in another order among themselves.
 fn copy_below(random: &mut Random, world: &World, nodes: &mut Vec<Node>, copied: usize, size: usize) {
     let last = nodes.len();
@@ -304,8 +304,12 @@ fn copy_below(random: &mut Random, world: &World, nodes: &mut Vec<Node>, copied:
         let old = nodes[node];
         let parent = if node == copied { old.parent } else { place[old.parent as usize] };
         place[node] = nodes.len() as u16;
-        let changed = old.value != 0 && random.chance(1, 10);
-        let value = if changed { old.value - 1 } else { old.value };
+        let value = match old.value {
+            0 => 0,
+            same if !random.chance(1, 10) => same,
+            wide if wide > 65_535 => wide % 65_536,
+            other => other - 1,
+        };
         nodes.push(Node { parent, label: old.label, value });
     }
 }

@@ -14,7 +14,7 @@ use Rattle.meaning.specs.Lists.{Each, end, also, isEmpty}
 use Rattle.meaning.specs.Paths.{Class, Label, element, attribute, text, isElement, classOf, isLabel, declared}
 use Rattle.meaning.specs.Trees.{Table, Node, noNode, tableOf, Placed, IsTree}
 use Rattle.meaning.specs.Records.{word, number, valueBytes, recordLength, recordKind, recordBody, readNode, nodeBytes}
-use Rattle.meaning.specs.Refusals.{Refusal, sound, firstOf, walk, goodRoot, goodBelow, nodeKindIn, treeLimit, treeTests, treeWalked, nodesIn, treeRefusal}
+use Rattle.meaning.specs.Refusals.{Refusal, sound, firstOf, walk, goodRoot, goodBelow, nodeKindIn, treeTests, treeWalked, nodesIn, treeRefusal}
 use Rattle.theory_paths.specs.Bools.{of-true}
 use Rattle.theory_paths.specs.Good.{GoodLabels, declared-between}
 use Rattle.theory_records.specs.Tests.{both, either, never}

@@ -1,6 +1,6 @@
 -- What is written is read back: a walk over encodings accepts each and gives what was encoded.
 use Prim.Native.Nat.{ℕ, zero, suc, _+_, _*_, _^_, _≤_, _<_}
-use mathlib.Core.Path.{_≡_, refl, sym, subst, ap, _∙_}
+use mathlib.Core.Path.{_≡_, sym, subst, ap, _∙_}
 use mathlib.Core.Bool.{Bool, true, false, cond, _&&_, _||_, not}
 use mathlib.Core.List.{List, [], _∷_, _++_, map, flatten, append-assoc, append-nil}
 use native.Mathlib.Omega.{arith}
@@ -15,7 +15,7 @@ use Rattle.meaning.specs.Paths.{Label}
 use Rattle.meaning.specs.Trees.{Node}
 use Rattle.meaning.specs.Keys.{Key}
 use Rattle.meaning.specs.Rules.{Line}
-use Rattle.meaning.specs.Records.{wordBytes, recordLength, recordKind, recordBody, recordBytes, bodyEnds, readNode, nodeBytes, valueBytes, numberBytes, keyIn, readKey, keyBody, keyBytes, isSome, readLine, lineBytes}
+use Rattle.meaning.specs.Records.{wordBytes, recordLength, recordKind, recordBody, recordBytes, readNode, nodeBytes, valueBytes, numberBytes, keyIn, readKey, keyBody, keyBytes, isSome, readLine, lineBytes}
 use Rattle.meaning.specs.Refusals.{Refusal, Walked, firstOf, walk, whole, tooMany, keyTests, goodRoot, goodBelow, treeTests, treeWalked, nodesIn, treeRefusal, lineTests, proofWalked, questionTests, questionWalked, questionRefusal, questionIn}
 use Rattle.theory_paths.specs.Good.{GoodKey, tests-of-good}
 use Rattle.theory_records.specs.Walks.{walk-step, walk-end}

@@ -18,7 +18,7 @@ const NODE_BYTES: usize = 11;
 
 const NODE_LENGTH: u8 = 11;
 
-const NODE_KIND: u8 = 5;
+const WIDE_KIND: u8 = 5;
 
 const BYTE: usize = 256;
 
@@ -53,7 +53,7 @@ fn write_node(out: &mut [u8], parent: usize, label: u8, value: usize)
     let above_high = high(above);
     out[0] = NODE_LENGTH;
     out[1] = 0;
-    out[2] = NODE_KIND;
+    out[2] = WIDE_KIND;
     out[3] = 0;
     out[4] = parent_low;
     out[5] = parent_high;

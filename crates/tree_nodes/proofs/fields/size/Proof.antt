@@ -1,8 +1,7 @@
 use Prim.Native.Nat.{ℕ, _/_}
 use lib.ListN.{length}
-use native.Mathlib.Omega.{arith}
-use mathlib.Core.Path.{ap, _∙_}
-use Rattle.tree_nodes.specs.FileTable.{fileTable, told-fits}
+use mathlib.Core.Path.{ap}
+use Rattle.tree_nodes.specs.FileTable.{fileTable}
 use borrow.Author.Needs.{needs}
 use Rattle.tree_nodes.proofs.fields.size.Statement.{statement}
 use Rattle.tree_nodes.proofs.fields.size.Tie as tie
