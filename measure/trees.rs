@@ -1,6 +1,6 @@
 //! Trees on which a careless tree test would take hours, and a segment of a bench campaign. Labels are those of the bench examples.
 use crate::reference::paths::{ROOT, TEXT};
-use crate::reference::records::{write_tree, Node, NONE};
+use crate::reference::records::{write_tree, Node, NODE_KIND, NONE};
 
 const RUN: u8 = 2;
 const PORT: u8 = 3;
@@ -19,7 +19,7 @@ impl Table {
     }
 
     fn add(&mut self, parent: usize, label: u8, value: usize) -> usize {
-        self.nodes.push(Node { parent: parent as u16, label, value: value as u16 });
+        self.nodes.push(Node { parent: parent as u16, label, value: value as u32 });
         self.nodes.len() - 1
     }
 
@@ -36,7 +36,7 @@ impl Table {
     }
 
     pub fn bytes(&self) -> Vec<u8> {
-        write_tree(&self.nodes)
+        write_tree(&self.nodes, NODE_KIND)
     }
 }
 

@@ -33,7 +33,7 @@ line='
 "$front" >"$work/table" || fail "the bundled examples do not agree with 01: $(cat "$work/table")"
 rows=$(grep -c ' accepted ' "$work/table") || true
 [ "$rows" -eq 12 ] || fail "$rows rows, not 12"
-grep -q '^b    not implied  108 ' "$work/table" || fail "row b is not there"
+grep -q '^b    not implied  132 ' "$work/table" || fail "row b is not there"
 # a wrong expectation is seen: the same examples with row a turned round
 cp -R "$root/bench" "$front" "$work"
 mkdir "$work/target"
@@ -52,8 +52,8 @@ cd "$work"
 
 # OUT is overwritten by exactly the bytes used, and stays on a refusal
 head -c 1000 /dev/zero >"$work/out"
-expect 1 "not implied 108$line" decide "$bench/b.profile" "$bench/b.question" "$work/out"
-[ "$(wc -c <"$work/out")" -eq 108 ] || fail "OUT has other bytes than those used"
+expect 1 "not implied 132$line" decide "$bench/b.profile" "$bench/b.question" "$work/out"
+[ "$(wc -c <"$work/out")" -eq 132 ] || fail "OUT has other bytes than those used"
 cp "$work/out" "$work/before"
 expect 2 "refused 1 2 0$line" decide "$bench/b.profile" "$work/no_such_file" "$work/out"
 cmp -s "$work/before" "$work/out" || fail "a refusal changed OUT"
@@ -114,22 +114,27 @@ list() { "$front" list <"$1" >"$work/found" || return $?; }
 cp "$bench/b.profile" profile.key
 list "$work/before" || fail "the listing of b: status $?"
 cmp -s "$root/crates/list/stdout" "$work/found" || fail "the listing of b differs"
-# 4,096 nodes, five blocks: a root and 4,095 elements 3 under it, whose records are all the same bytes
-printf '\011\000\003\000\000\000\003\000\000' >"$work/element"
-while [ "$(wc -c <"$work/element")" -lt 36855 ]; do
-    cat "$work/element" "$work/element" >"$work/elements"
-    mv "$work/elements" "$work/element"
-done
-{
-    printf '\011\000\003\000\377\377\313\000\000'
-    head -c 36855 "$work/element"
-} >"$work/star"
-list "$work/star" || fail "the listing of 4,096 nodes: status $?"
-{
-    printf 'nodes 4096\n0 - 203 -\n'
-    seq -f '%.0f 0 3 -' 1 4095
-} >"$work/wanted"
-cmp "$work/wanted" "$work/found" || fail "the listing of 4,096 nodes differs"
+# 4,096 nodes, five blocks: a root and 4,095 nodes under it, whose records are all the same bytes
+# star ROOT NODE BYTES LINE: the two records, how many bytes the nodes have, and what a node's line says behind its number
+star() {
+    printf "$2" >"$work/node"
+    while [ "$(wc -c <"$work/node")" -lt "$3" ]; do
+        cat "$work/node" "$work/node" >"$work/nodes"
+        mv "$work/nodes" "$work/node"
+    done
+    {
+        printf "$1"
+        head -c "$3" "$work/node"
+    } >"$work/star"
+    list "$work/star" || fail "the listing of 4,096 nodes: status $?"
+    {
+        printf 'nodes 4096\n0 - 203 -\n'
+        seq -f "%.0f $4" 1 4095
+    } >"$work/wanted"
+    cmp "$work/wanted" "$work/found" || fail "the listing of 4,096 nodes differs"
+}
+star '\011\000\003\000\377\377\313\000\000' '\011\000\003\000\000\000\003\000\000' 36855 "0 3 -"
+star '\013\000\005\000\377\377\313\000\000\000\000' '\013\000\005\000\000\000\007\377\377\377\377' 45045 "0 7 4294967295"
 refused() {
     tried=$((tried + 1))
     found=0
@@ -137,10 +142,14 @@ refused() {
     [ "$found" -eq 2 ] && [ "$(cat "$work/found")" = "refused $2" ] || fail "list $1: $found $(head -c 100 "$work/found"), not refused $2"
 }
 refused /dev/null "8 3 0"
-head -c 107 "$work/before" >"$work/cut"
+head -c 131 "$work/before" >"$work/cut"
 refused "$work/cut" "1 3 11"
 head -c 36865 /dev/zero >"$work/large"
 refused "$work/large" "7 3 0"
+printf '\013' | cat "$work/star" - >"$work/large"
+refused "$work/large" "7 3 0"
+cat "$root/crates/list/stdin" "$work/before" >"$work/mixed"
+refused "$work/mixed" "2 3 12"
 rm profile.key
 refused "$work/before" "8 3 2"
 printf '\005\000\001\000\002' >profile.key

@@ -52,7 +52,10 @@ fn examples(tally: &mut Tally) {
     }
     let (profile, asked) = (bench_profile(ROWS[1].1), question(ROWS[1].2));
     if let Ok(Decision::NotImplied(tree)) = decide(&profile, &asked, ROOM) {
-        tally.same("bytes of b", tree.len(), 108);
+        tally.same("bytes of b", tree.len(), 132);
+        let nodes = read_tree(&tree, &read_profile(&profile).unwrap().classes).unwrap();
+        let narrow = write_tree(&nodes, NODE_KIND);
+        tally.same("listing of b from kind 3", list(&profile, &narrow, 0, ROOM), Ok(LISTING_OF_B.as_bytes().to_vec()));
         tally.same("listing of b", list(&profile, &tree, 0, ROOM), Ok(LISTING_OF_B.as_bytes().to_vec()));
         tally.same("past the end", list(&profile, &tree, 1, ROOM), Ok(Vec::new()));
     }
@@ -104,7 +107,7 @@ fn drawn_trees(tally: &mut Tally) {
     let paths = [2, 3, 4, 5].iter().map(|&last| [vec![2; 7], vec![last]].concat()).collect();
     let largest = key_record(&Key { context: vec![2; 8], target: vec![2; 8], paths });
     match decide(&bench_labels(), &largest, ROOM) {
-        Ok(Decision::NotImplied(tree)) => tally.same("the largest tree", tree.len(), 9 * 178),
+        Ok(Decision::NotImplied(tree)) => tally.same("the largest tree", tree.len(), 11 * 178),
         other => tally.same("the largest tree", format!("{:?}", other), "a tree".to_string()),
     }
 }
@@ -260,13 +263,17 @@ fn limits(tally: &mut Tally) {
     tally.same("label 200", rewrite(&last, ROOM), Ok(last.clone()));
 }
 
-/// A chain of elements below the root.
+/// A chain of elements below the root, as records of kind 3.
 fn chain(count: usize) -> Vec<u8> {
+    chain_of(NODE_KIND, count)
+}
+
+fn chain_of(kind: u16, count: usize) -> Vec<u8> {
     let mut nodes = vec![Node { parent: NONE, label: ROOT, value: 0 }];
     for number in 1..count {
         nodes.push(Node { parent: number as u16 - 1, label: 2, value: 0 });
     }
-    write_tree(&nodes)
+    write_tree(&nodes, kind)
 }
 
 fn big_inputs(tally: &mut Tally) {
@@ -284,14 +291,15 @@ fn big_inputs(tally: &mut Tally) {
         .map(|k| list(&labels, &chain(4_096), k, ROOM).unwrap().iter().filter(|&&byte| byte == b'\n').count())
         .collect();
     tally.same("lines of blocks", sizes, vec![1_024; 4]);
-    let leaves = |value: &dyn Fn(u16) -> u16| {
+    let leaves = |value: &dyn Fn(u32) -> u32| {
         let mut nodes = vec![Node { parent: NONE, label: ROOT, value: 0 }];
         nodes.extend((1..4_096).map(|number| Node { parent: 0, label: 6, value: value(number) }));
-        write_tree(&nodes)
+        write_tree(&nodes, WIDE_NODE_KIND)
     };
     let attributes = key_record(&Key { context: vec![], target: vec![6], paths: vec![vec![]] });
     tally.same("all different", keep(&labels, &attributes, &leaves(&|number| number)), Ok(true));
     tally.same("last two equal", keep(&labels, &attributes, &leaves(&|number| number.min(4_094))), Ok(false));
+    tally.same("low bytes equal", keep(&labels, &attributes, &leaves(&|number| 65_536 * number)), Ok(true));
     let line = |rule, first, key: &[u8]| {
         line_record(&Line { rule, first, second: NONE, key: read_key(&key[4..]).unwrap() })
     };
@@ -305,6 +313,31 @@ fn big_inputs(tally: &mut Tally) {
     tally.refused("proof's size", check_proof(&labels, &q0, &vec![0; PROOF_BYTES + 1]), (7, 3, 0));
     tally.refused("full size", check_proof(&labels, &q0, &vec![0; PROOF_BYTES]), (1, 3, 0));
     line_sizes(tally, &labels);
+    wide_trees(tally, &labels, &everywhere);
+}
+
+/// 02, request 11: "The limit of a tree whose record 0 is kind 5 is 45,056 bytes, still 4,096 nodes"; "a file that mixes the kinds
+/// gives 2 at the first record that differs".
+fn wide_trees(tally: &mut Tally, labels: &[u8], question: &[u8]) {
+    let of = |tree: &[u8]| keep(labels, question, tree);
+    let full = chain_of(WIDE_NODE_KIND, 4_096);
+    tally.same("bytes of 4,096 wide nodes", full.len(), WIDE_TREE_BYTES);
+    tally.same("4,096 wide nodes", of(&full), Ok(true));
+    tally.refused("a byte after 4,096 wide nodes", of(&[full, vec![11]].concat()), (7, 3, 0));
+    tally.refused("4,097 wide nodes", of(&chain_of(WIDE_NODE_KIND, 4_097)), (7, 3, 0));
+    let padded = |head: &[u8]| [head.to_vec(), vec![9; 40_000 - head.len()]].concat();
+    tally.refused("the head of record 0 says 5", of(&padded(&[3, 0, 5, 0])), (1, 3, 0));
+    tally.refused("the head of record 0 says 3", of(&padded(&[3, 0, 3, 0])), (7, 3, 0));
+    tally.refused("three bytes are no head", of(&[4, 0, 5]), (1, 3, 0));
+    let node = Node { parent: 0, label: 2, value: 0 };
+    let mixed = |first: u16, second: u16| [chain_of(first, 2), node_record(&node, second)].concat();
+    tally.refused("5 among 3", of(&mixed(NODE_KIND, WIDE_NODE_KIND)), (2, 3, 2));
+    tally.refused("3 among 5", of(&mixed(WIDE_NODE_KIND, NODE_KIND)), (2, 3, 2));
+    let mut torn = mixed(NODE_KIND, WIDE_NODE_KIND);
+    torn.pop();
+    tally.refused("1 before 2 in the record that differs", of(&torn), (1, 3, 2));
+    tally.refused("a wide node in a profile", rewrite(&chain_of(WIDE_NODE_KIND, 1), ROOM), (2, 1, 0));
+    tally.refused("its body first", rewrite(&hex("0a 00 05 00 ff ff cb 00 00 00"), ROOM), (1, 1, 0));
 }
 
 fn line_sizes(tally: &mut Tally, labels: &[u8]) {
@@ -343,7 +376,7 @@ fn line_sizes(tally: &mut Tally, labels: &[u8]) {
 /// Value equality and key keeping by 01's sentences on a small tree.
 fn equality(tally: &mut Tally) {
     let profile = read_profile(&all(&[LA, LB])).unwrap();
-    let node = |parent: u16, label: u8, value: u16| Node { parent, label, value };
+    let node = |parent: u16, label: u8, value: u32| Node { parent, label, value };
     let nodes = [
         node(NONE, ROOT, 0),
         node(0, 2, 0),
@@ -354,10 +387,14 @@ fn equality(tally: &mut Tally) {
         node(4, 6, 5),
         node(0, 2, 0),
         node(7, 6, 5),
+        node(0, 6, 65_541),
+        node(0, 6, 65_541),
     ];
     let tree = Tree::new(&nodes, &profile.classes);
     tally.same("attributes apart from text", tree.worth[1] == tree.worth[4], true);
     tally.same("not as many", tree.worth[1] == tree.worth[7], false);
+    tally.same("low bytes alone", tree.worth[8] == tree.worth[9], false);
+    tally.same("four bytes", tree.worth[9] == tree.worth[10], true);
     for x in 0..nodes.len() {
         for y in 0..nodes.len() {
             tally.same("equality", tree.worth[x] == tree.worth[y], tree.is_equal_by_definition(x, y));

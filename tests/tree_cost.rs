@@ -8,7 +8,7 @@ mod reference;
 
 use reference::examples::{bench_profile, question};
 use reference::paths::{ROOT, TEXT};
-use reference::records::{write_tree, Node, NONE, TREE_NODES};
+use reference::records::{write_tree, Node, NODE_KIND, NONE, TREE_NODES};
 use std::fs;
 use std::path::Path;
 use std::process::{Child, Command, Stdio};
@@ -37,7 +37,7 @@ impl Table {
     }
 
     fn add(&mut self, parent: usize, label: u8, value: usize) -> usize {
-        self.nodes.push(Node { parent: parent as u16, label, value: value as u16 });
+        self.nodes.push(Node { parent: parent as u16, label, value: value as u32 });
         self.nodes.len() - 1
     }
 
@@ -310,7 +310,7 @@ fn run(case: &Case, nodes: usize, program: &str, folder: &Path) -> f64 {
     let put = |file: &str, bytes: &[u8]| fs::write(folder.join(file), bytes).expect("the folder takes files");
     put("profile", &bench_profile(&keys));
     put("question", &question(case.question));
-    put("tree", &write_tree(&table.nodes));
+    put("tree", &write_tree(&table.nodes, NODE_KIND));
     let command = if keys.is_empty() { ["profile", "keep"] } else { ["checker", "tree"] };
     let start = Instant::now();
     let mut child = Command::new(program)

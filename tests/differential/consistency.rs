@@ -41,8 +41,9 @@ fn trees_and_lines(random: &mut Random, asked: &Asked) -> Result<(), String> {
         return Err("rewriting changes the profile".to_string());
     }
     let size = 1 + random.below(SMALL_TREE);
-    let nodes = tree(random, &asked.world, size);
-    if read_tree(&write_tree(&nodes), &asked.profile.classes) != Ok(nodes.clone()) {
+    let kind = node_kind(random);
+    let nodes = tree(random, &asked.world, size, kind);
+    if read_tree(&write_tree(&nodes, kind), &asked.profile.classes) != Ok(nodes.clone()) {
         return Err("a written tree is not read".to_string());
     }
     let table = Tree::new(&nodes, &asked.profile.classes);

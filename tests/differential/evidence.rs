@@ -99,7 +99,7 @@ fn refute(random: &mut Random, case: &Case, seen: &mut Seen, differences: &mut D
     seen.breaking += search.breaking;
     if let Some(nodes) = search.found {
         seen.refuting += 1;
-        let inputs = [profile.clone(), question.clone(), write_tree(&nodes)];
+        let inputs = [profile.clone(), question.clone(), write_tree(&nodes, WIDE_NODE_KIND)];
         let against = Case { operation: CHECK_TREE, inputs, ..case.clone() };
         differences.add("a tree refutes an answer `implied`", &against, &word("a refusal"), Some(&word("accepted")));
     }

@@ -55,14 +55,14 @@ fn eight_keys(cases: &mut Cases) {
     cases.put("eight keys, eight steps", decide(&with(&all), &question), "implied");
     cases.put("eight keys, the other way round", decide(&with(&backwards), &question), "implied");
     for (without, wanted) in [
-        (1, "not implied 324"),
-        (2, "not implied 306"),
-        (3, "not implied 288"),
-        (4, "not implied 270"),
-        (5, "not implied 252"),
-        (6, "not implied 234"),
-        (7, "not implied 216"),
-        (8, "not implied 198"),
+        (1, "not implied 396"),
+        (2, "not implied 374"),
+        (3, "not implied 352"),
+        (4, "not implied 330"),
+        (5, "not implied 308"),
+        (6, "not implied 286"),
+        (7, "not implied 264"),
+        (8, "not implied 242"),
     ] {
         let mut fewer = all.clone();
         fewer.remove(without - 1);
@@ -81,9 +81,9 @@ fn overlapping_steps(cases: &mut Cases) {
                       11 6 5 -/12 11 202 12/13 11 1 10";
     not_implied(cases, &[upper], asked, from_frame);
     // Without the upper key nothing leads to the root but the root.
-    cases.put("overlapping steps without the upper", decide(&profile(&[lower]), &key(asked)), "not implied 180");
+    cases.put("overlapping steps without the upper", decide(&profile(&[lower]), &key(asked)), "not implied 220");
     // The step of (run,(port,..)) ends below q's reach: the run is never left.
-    cases.put("steps that stop short", decide(&profile(&["(run,(port.frame.stamp,{#}))"]), &key(asked)), "not implied 180");
+    cases.put("steps that stop short", decide(&profile(&["(run,(port.frame.stamp,{#}))"]), &key(asked)), "not implied 220");
     implied(cases, &["(run,(port.frame.stamp,{#}))", "(e,(run,{port.frame.stamp.#}))"], asked);
 }
 
@@ -110,8 +110,8 @@ fn steps_inside_a_branch(cases: &mut Cases) {
     let asked = "(e,(run.port,{frame.@seq}))";
     let (inner, outer) = ("(run,(port.frame,{@seq}))", "(e,(run,{port.frame.@seq}))");
     implied(cases, &[inner, outer], asked);
-    cases.put("from a branch to the run, and no further", decide(&profile(&[inner]), &key(asked)), "not implied 144");
-    cases.put("from the run, and no way up to it", decide(&profile(&[outer]), &key(asked)), "not implied 126");
+    cases.put("from a branch to the run, and no further", decide(&profile(&[inner]), &key(asked)), "not implied 176");
+    cases.put("from the run, and no way up to it", decide(&profile(&[outer]), &key(asked)), "not implied 154");
     // Steps within the branch, or to t itself, lead no further.
     let within = "0 - 203 -/1 0 202 1/2 0 3 -/3 2 202 3/4 2 4 -/5 4 202 5/6 4 5 -/7 6 202 7/8 6 1 8/\
                   9 0 3 -/10 9 202 10/11 9 4 -/12 11 202 12/13 11 5 -/14 13 202 14/15 13 1 8";
@@ -131,10 +131,10 @@ fn steps_from_two_branches(cases: &mut Cases) {
     implied(cases, &["(run,(port,{frame.@seq,stamp.#}))", "(e,(run,{port.stamp.#}))"], asked);
     // u is the root: 2 nodes; in each copy run, port, frame and stamp have 2, @seq and text 1.
     let no_step = decide(&profile(&["(e,(run.port.frame,{@seq,stamp.#}))"]), &key(asked));
-    cases.put("no frame has both marks below it", no_step, "not implied 198");
+    cases.put("no frame has both marks below it", no_step, "not implied 242");
     // u is the run: 4 nodes, and 8 in each copy.
     let from_run = decide(&profile(&["(e,(run,{port.frame.@seq,port.stamp.#}))"]), &key(asked));
-    cases.put("the run alone steps to the root", from_run, "not implied 180");
+    cases.put("the run alone steps to the root", from_run, "not implied 220");
 }
 
 /// 64 keys, of which few are of use, wherever they stand.
@@ -148,41 +148,41 @@ fn many_keys(cases: &mut Cases) {
     let (port, frame, whole) = ("(e,(port,{frame.@seq}))", "(port,(frame,{@seq}))", "(e,(_*.frame,{@seq}))");
     for place in [0, 31, 63] {
         cases.put(&format!("64 keys, key {} of use", place), decide(&at(&[(place, whole)]), &question), "implied");
-        cases.put(&format!("64 keys, key {} not enough", place), decide(&at(&[(place, frame)]), &question), "not implied 108");
+        cases.put(&format!("64 keys, key {} not enough", place), decide(&at(&[(place, frame)]), &question), "not implied 132");
     }
     for (first, second) in [(0, 63), (63, 0), (62, 63), (31, 32)] {
         let two = at(&[(first, port), (second, frame)]);
         cases.put(&format!("64 keys, keys {} and {} of use", first, second), decide(&two, &question), "implied");
     }
-    cases.put("64 keys, none of use", decide(&at(&[]), &question), "not implied 108");
+    cases.put("64 keys, none of use", decide(&at(&[]), &question), "not implied 132");
     // Only the port leads to the root, so u is the port: 4 nodes, and 3 in each copy.
-    cases.put("64 keys, u is the port", decide(&at(&[(63, port)]), &question), "not implied 90");
+    cases.put("64 keys, u is the port", decide(&at(&[(63, port)]), &question), "not implied 110");
     let chain: Vec<String> = (0..8).map(|k| format!("({},(run,{{{}}}))", runs(k, ""), runs(7 - k, "@id"))).collect();
     let mut keys = vec![idle; 64];
     (0..8).for_each(|k| keys[63 - 8 * k] = &chain[k]);
     let long = key(&format!("(e,({},{{@id}}))", runs(8, "")));
     cases.put("64 keys, eight steps", decide(&profile(&keys), &long), "implied");
     keys[63] = idle;
-    cases.put("64 keys, the first of eight steps is missing", decide(&profile(&keys), &long), "not implied 324");
+    cases.put("64 keys, the first of eight steps is missing", decide(&profile(&keys), &long), "not implied 396");
 }
 
 /// The largest pattern: 8 symbols in C, in T and in each of 4 key paths. The trunk has root and C, 18 nodes; each copy has T and the
-/// branches, 16 and 4 times 16: 178 nodes, the most that a written tree has (02, request 8), so 178 * 9 = 1602 bytes.
+/// branches, 16 and 4 times 16: 178 nodes, the most that a written tree has (02, request 8), so 178 * 11 = 1958 bytes.
 fn eight_symbols(cases: &mut Cases) {
     let (c, t) = (runs(8, ""), "port.port.port.port.port.port.port.port");
     let elements = ["run", "port", "frame", "stamp"].map(|last| runs(7, last)).join(",");
     let leaves = ["#", "stamp", "@id", "@seq"].map(|last| runs(7, last)).join(",");
     let any = "_*.run._*.run._*.run._*.run";
     let ask = |context: &str, target: &str, set: &str| key(&format!("({},({},{{{}}}))", context, target, set));
-    cases.put("8 symbols everywhere, elements", decide(&profile(&[]), &ask(&c, t, &elements)), "not implied 1602");
+    cases.put("8 symbols everywhere, elements", decide(&profile(&[]), &ask(&c, t, &elements)), "not implied 1958");
     // Three branches end in a leaf, which has no filler: 3 nodes less in each copy.
-    cases.put("8 symbols everywhere, leaves", decide(&profile(&[]), &ask(&c, t, &leaves)), "not implied 1548");
-    cases.put("8 symbols everywhere, any-paths", decide(&profile(&[]), &ask(any, any, &elements)), "not implied 1602");
+    cases.put("8 symbols everywhere, leaves", decide(&profile(&[]), &ask(&c, t, &leaves)), "not implied 1892");
+    cases.put("8 symbols everywhere, any-paths", decide(&profile(&[]), &ask(any, any, &elements)), "not implied 1958");
     // Without the context: root 2, each copy 16 and 64.
-    cases.put("8 symbols in T and P", decide(&profile(&[]), &ask("e", t, &elements)), "not implied 1458");
+    cases.put("8 symbols in T and P", decide(&profile(&[]), &ask("e", t, &elements)), "not implied 1782");
     let near = format!("({},({},{{{}}}))", c, t, runs(8, ""));
     let far = format!("({},({},{{{}}}))", c, t, leaves);
-    cases.put("8 symbols everywhere, a key path that is no end", decide(&profile(&[&far]), &ask(&c, t, &elements)), "not implied 1602");
+    cases.put("8 symbols everywhere, a key path that is no end", decide(&profile(&[&far]), &ask(&c, t, &elements)), "not implied 1958");
     cases.put("8 symbols everywhere, one key path of four", decide(&profile(&[&near]), &ask(&c, t, &elements)), "implied");
 }
 
@@ -196,5 +196,5 @@ fn eight_symbols_implied(cases: &mut Cases) {
     cases.put("8 symbols everywhere, from any-paths", decide(&profile(&[&wide]), &key(&whole)), "implied");
     cases.put("8 symbols everywhere, any-paths from themselves", decide(&profile(&[&wide]), &key(&wide)), "implied");
     // 18 for root and C; each copy 16 for T, 15 for each of three branches, 16 for the fourth.
-    cases.put("8 symbols everywhere, any-paths from labels", decide(&profile(&[&whole]), &key(&wide)), "not implied 1548");
+    cases.put("8 symbols everywhere, any-paths from labels", decide(&profile(&[&whole]), &key(&wide)), "not implied 1892");
 }

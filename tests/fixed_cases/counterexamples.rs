@@ -13,8 +13,12 @@ pub fn put(cases: &mut Cases) {
     reordered_attributes(cases);
 }
 
+/// As records of either kind.
 fn check(cases: &mut Cases, name: &str, keys: &[&str], asked: &str, nodes: &str, wanted: &str) {
-    cases.put(&format!("counterexample: {}", name), check_tree(&profile(keys), &key(asked), &tree(nodes)), wanted);
+    for of in [KIND_3, KIND_5] {
+        let case = check_tree(&profile(keys), &key(asked), &of.tree(nodes));
+        cases.put(&format!("counterexample of kind {}: {}", of.kind, name), case, wanted);
+    }
 }
 
 /// The rows of 01 that are not implied, with the trees that 01 fixes; and each tree against the same question and key exchanged.

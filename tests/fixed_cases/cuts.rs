@@ -7,7 +7,8 @@ use super::notation::*;
 pub fn put(cases: &mut Cases) {
     profile_cuts(cases);
     question_cuts(cases);
-    tree_cuts(cases);
+    tree_cuts(cases, KIND_3);
+    tree_cuts(cases, KIND_5);
     proof_cuts(cases);
 }
 
@@ -39,21 +40,22 @@ fn question_cuts(cases: &mut Cases) {
     for cut in 0..14 {
         cases.put(&format!("question cut at {}", cut), decide(&labels(BENCH), &question[..cut]), "refused 1 2 0");
     }
-    cases.put("question not cut", decide(&labels(BENCH), &question), "not implied 162");
+    cases.put("question not cut", decide(&labels(BENCH), &question), "not implied 198");
 }
 
-/// Six nodes of 9 bytes. An empty tree is 8.
-fn tree_cuts(cases: &mut Cases) {
+/// Six nodes of 9 or of 11 bytes. An empty tree is 8.
+fn tree_cuts(cases: &mut Cases, of: NodeKind) {
     let lines = ["0 - 203 -", "1 0 3 -", "2 1 6 0", "3 1 4 -", "4 3 1 258", "5 0 202 65535"];
-    let whole = tree(&lines.join("/"));
-    assert_eq!(whole.len(), 54);
+    let whole = of.tree(&lines.join("/"));
+    assert_eq!(whole.len(), 6 * of.bytes);
     let (labels, question) = (labels(BENCH), key("(e,(port,{@id}))"));
-    for cut in 0..=54 {
+    for cut in 0..=whole.len() {
         let kept = &whole[..cut];
-        let name = format!("tree cut at {}", cut);
-        let refused = if cut == 0 { "refused 8 3 0".to_string() } else { format!("refused 1 3 {}", cut / 9) };
-        if cut > 0 && cut % 9 == 0 {
-            let listed = format!("nodes {}\n{}\n", cut / 9, lines[..cut / 9].join("\n"));
+        let name = format!("tree of kind {} cut at {}", of.kind, cut);
+        let nodes = cut / of.bytes;
+        let refused = if cut == 0 { "refused 8 3 0".to_string() } else { format!("refused 1 3 {}", nodes) };
+        if cut > 0 && cut % of.bytes == 0 {
+            let listed = format!("nodes {}\n{}\n", nodes, lines[..nodes].join("\n"));
             cases.put(&format!("{} (keep)", name), keep(&labels, &question, kept), "kept");
             cases.put(&format!("{} (tree)", name), check_tree(&labels, &question, kept), "refused 13 3 0");
             cases.put_bytes(&format!("{} (list)", name), list(&labels, kept, 0), "listed", listed.as_bytes());

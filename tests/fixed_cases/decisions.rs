@@ -23,34 +23,34 @@ pub fn implied(cases: &mut Cases, keys: &[&str], asked: &str) {
 
 /// Not implied, with the tree that 01 fixes.
 pub fn not_implied(cases: &mut Cases, keys: &[&str], asked: &str, nodes: &str) {
-    cases.put_bytes(&decision(keys, asked), decide(&profile(keys), &key(asked)), "not implied", &tree(nodes));
+    cases.put_bytes(&decision(keys, asked), decide(&profile(keys), &key(asked)), "not implied", &wide_tree(nodes));
 }
 
 fn decision(keys: &[&str], asked: &str) -> String {
     format!("decide: {} asks {}", if keys.is_empty() { "nothing".to_string() } else { keys.join(" ") }, asked)
 }
 
-/// 01, "Bench examples"; the bytes of the trees are 9 times the nodes drawn.
+/// 01, "Bench examples"; "bytes used is 11 times the nodes" (02, request 11).
 fn rows_of_01(cases: &mut Cases) {
     let rows: [(&str, &[&str], &str, &str, &str); 12] = [
         ("a", &["(e,(port.frame,{@seq}))"], "(port,(frame,{@seq}))", "implied", ""),
-        ("b", &["(port,(frame,{@seq}))"], "(e,(port.frame,{@seq}))", "not implied 108", drawn::B),
+        ("b", &["(port,(frame,{@seq}))"], "(e,(port.frame,{@seq}))", "not implied 132", drawn::B),
         ("c", &["(e,(port.frame,{e,stamp}))"], "(e,(port,{e,frame.stamp}))", "implied", ""),
-        ("d", &["(e,(port.frame,{stamp,@seq}))"], "(e,(port,{frame.stamp,frame.@seq}))", "not implied 180", drawn::D),
+        ("d", &["(e,(port.frame,{stamp,@seq}))"], "(e,(port,{frame.stamp,frame.@seq}))", "not implied 220", drawn::D),
         ("f", &["(e,(port,{frame.@seq}))", "(port,(frame,{@seq}))"], "(e,(port.frame,{@seq}))", "implied", ""),
         ("g", &[], "(run,(e,{@id}))", "implied", ""),
         ("h", &["(e,(_*.frame,{@seq}))"], "(e,(port.frame,{@seq}))", "implied", ""),
-        ("i", &["(e,(port.frame,{@seq}))"], "(e,(_*.frame,{@seq}))", "not implied 108", drawn::I),
-        ("j", &["(e,(frame,{stamp.#}))"], "(e,(frame,{stamp}))", "not implied 90", drawn::J),
-        ("k", &["(e,(port,{frame}))"], "(e,(port,{frame.@seq}))", "not implied 108", drawn::K),
+        ("i", &["(e,(port.frame,{@seq}))"], "(e,(_*.frame,{@seq}))", "not implied 132", drawn::I),
+        ("j", &["(e,(frame,{stamp.#}))"], "(e,(frame,{stamp}))", "not implied 110", drawn::J),
+        ("k", &["(e,(port,{frame}))"], "(e,(port,{frame.@seq}))", "not implied 132", drawn::K),
         ("l", &["(e,(port,{e,frame}))"], "(e,(port,{e,frame.@seq}))", "implied", ""),
-        ("m", &[], "(port,(@id,{e}))", "not implied 54", drawn::M),
+        ("m", &[], "(port,(@id,{e}))", "not implied 66", drawn::M),
     ];
     for (row, keys, asked, wanted, nodes) in rows {
         let case = decide(&profile(keys), &key(asked));
         cases.put(&format!("row {}", row), case.clone(), wanted);
         if !nodes.is_empty() {
-            cases.put_bytes(&format!("row {}, the tree", row), case, "not implied", &tree(nodes));
+            cases.put_bytes(&format!("row {}, the tree", row), case, "not implied", &wide_tree(nodes));
         }
     }
     let b = decide(&profile(rows[1].1), &key(rows[1].2));
@@ -68,21 +68,21 @@ fn examples_of_001(cases: &mut Cases) {
     let tree_of_four = "0 - 203 -/1 0 202 1/\
         2 0 201 -/3 2 202 3/4 2 2 -/5 4 202 5/6 4 3 -/7 6 202 7/8 6 4 -/9 8 202 9/10 6 5 -/11 10 202 11/\
         12 0 201 -/13 12 202 13/14 12 2 -/15 14 202 15/16 14 3 -/17 16 202 17/18 16 4 -/19 18 202 9/20 16 5 -/21 20 202 11";
-    cases.put_bytes("001, Example 4", four, "not implied", &tree(tree_of_four));
+    cases.put_bytes("001, Example 4", four, "not implied", &wide_tree(tree_of_four));
     let five = ask(BOOKS, &["(_*.book,(author,{e}))"], "(_*.book,(author,{first,last}))");
     // u is q, the book: root, filler and book stand once.
     let tree_of_five = "0 - 203 -/1 0 202 1/2 0 201 -/3 2 202 3/4 2 2 -/5 4 202 5/\
         6 4 3 -/7 6 202 7/8 6 4 -/9 8 202 9/10 6 5 -/11 10 202 11/\
         12 4 3 -/13 12 202 13/14 12 4 -/15 14 202 9/16 12 5 -/17 16 202 11";
-    cases.put_bytes("001, Example 5", five, "not implied", &tree(tree_of_five));
+    cases.put_bytes("001, Example 5", five, "not implied", &wide_tree(tree_of_five));
     let (first, second) = ("(e,(group.user,{private.p,private.q}))", "(group,(user.private,{p,q}))");
     let asked = "(e,(group.user.private,{p,q}))";
     cases.put("001, Example 6", ask(RSA, &[first, second], asked), "implied");
     // Each key is needed. With the first alone u is the user: 6 nodes, and 6 in each copy. With the second alone u is the root.
-    cases.put("001, Example 6 without its second key", ask(RSA, &[first], asked), "not implied 162");
-    cases.put("001, Example 6 without its first key", ask(RSA, &[second], asked), "not implied 198");
+    cases.put("001, Example 6 without its second key", ask(RSA, &[first], asked), "not implied 198");
+    cases.put("001, Example 6 without its first key", ask(RSA, &[second], asked), "not implied 242");
     cases.put("001, after Table 2", ask(ABC, &["(e,(A.B,{e,C}))"], "(e,(A,{e,B.C}))"), "implied");
-    cases.put("001, after Table 2, without the empty path", ask(ABC, &["(e,(A.B,{e,C}))"], "(e,(A,{B.C}))"), "not implied 126");
+    cases.put("001, after Table 2, without the empty path", ask(ABC, &["(e,(A.B,{e,C}))"], "(e,(A,{B.C}))"), "not implied 154");
 }
 
 /// With an empty target t is q.
@@ -94,7 +94,7 @@ fn empty_targets(cases: &mut Cases) {
     }
     cases.put("decide: an empty profile", decide(&[], &key("(e,(e,{e}))")), "implied");
     let twins = "0 - 203 -/1 0 202 1/2 0 201 -/3 2 202 3/4 0 201 -/5 4 202 3";
-    cases.put_bytes("decide: an empty profile, any two nodes", decide(&[], &key("(e,(_*,{e}))")), "not implied", &tree(twins));
+    cases.put_bytes("decide: an empty profile, any two nodes", decide(&[], &key("(e,(_*,{e}))")), "not implied", &wide_tree(twins));
 }
 
 /// C ends and T begins with an any-path: two fillers, since the pattern is drawn along C, then along T.
@@ -209,7 +209,7 @@ fn leaves_as_targets(cases: &mut Cases) {
 fn rooms_and_refusals(cases: &mut Cases) {
     let (keys, asked) = (["(port,(frame,{@seq}))"], "(e,(port.frame,{@seq}))");
     let (sound, question) = (profile(&keys), key(asked));
-    for (room, wanted) in [(0, "refused 14 4 0"), (65_535, "refused 14 4 0"), (65_536, "not implied 108"), (65_537, "not implied 108")] {
+    for (room, wanted) in [(0, "refused 14 4 0"), (65_535, "refused 14 4 0"), (65_536, "not implied 132"), (65_537, "not implied 132")] {
         cases.put(&format!("decide in {} bytes", room), in_room(room, decide(&sound, &question)), wanted);
     }
     let implied = decide(&profile(&[asked]), &question);

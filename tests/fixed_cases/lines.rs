@@ -41,6 +41,8 @@ fn heads_and_kinds(cases: &mut Cases) {
         ("a label", "07 00 01 00 08 01 61", 2),
         ("a key", "08 00 02 00 00 00 01 00", 2),
         ("a node", "09 00 03 00 ff ff cb 00 00", 2),
+        ("a node of kind 5", "0b 00 05 00 ff ff cb 00 00 00 00", 2),
+        ("a node of kind 5 with a body of 5", "09 00 05 00 ff ff cb 00 00", 1),
         ("kind 0", "0d 00 00 00 01 ff ff ff ff 00 00 01 00", 2),
         ("kind 260 is not kind 4", "0d 00 04 01 01 ff ff ff ff 00 00 01 00", 2),
     ] {

@@ -1,13 +1,15 @@
 //! Issue 5: blocks of the listing. "First line: the word nodes and their number. Then number, parent, label, value; `-` for no
 //! parent or no value. Block k is lines 1,024k to 1,024k + 1,023, past the end 0 bytes".
 use super::expectations::Cases;
-use super::nodes::chain;
+use super::drawn;
+use super::nodes;
 use super::notation::*;
 
 pub fn put(cases: &mut Cases) {
     small(cases);
     values(cases);
     blocks_of_4096(cases);
+    longest_lines(cases);
     block_ends(cases);
     refused(cases);
 }
@@ -32,13 +34,15 @@ pub const LISTING_OF_B: &str = "nodes 12
 11 9 7 6
 ";
 
-/// The same tree as records, byte by byte.
-pub const BYTES_OF_B: &str = "09 00 03 00 ff ff cb 00 00  09 00 03 00 00 00 ca 01 00  09 00 03 00 00 00 03 00 00  09 00 03 00 02 00 ca 03 00
-    09 00 03 00 02 00 04 00 00  09 00 03 00 04 00 ca 05 00  09 00 03 00 04 00 07 06 00  09 00 03 00 00 00 03 00 00
-    09 00 03 00 07 00 ca 08 00  09 00 03 00 07 00 04 00 00  09 00 03 00 09 00 ca 0a 00  09 00 03 00 09 00 07 06 00";
+/// The same tree as records of kind 5, byte by byte.
+pub const BYTES_OF_B: &str = "0b 00 05 00 ff ff cb 00 00 00 00  0b 00 05 00 00 00 ca 01 00 00 00  0b 00 05 00 00 00 03 00 00 00 00
+    0b 00 05 00 02 00 ca 03 00 00 00  0b 00 05 00 02 00 04 00 00 00 00  0b 00 05 00 04 00 ca 05 00 00 00
+    0b 00 05 00 04 00 07 06 00 00 00  0b 00 05 00 00 00 03 00 00 00 00  0b 00 05 00 07 00 ca 08 00 00 00
+    0b 00 05 00 07 00 04 00 00 00 00  0b 00 05 00 09 00 ca 0a 00 00 00  0b 00 05 00 09 00 07 06 00 00 00";
 
 fn small(cases: &mut Cases) {
     listed(cases, "the tree of b", &hex(BYTES_OF_B), 0, LISTING_OF_B);
+    listed(cases, "the tree of b as records of kind 3", &tree(drawn::B), 0, LISTING_OF_B);
     listed(cases, "the tree of b, block 1", &hex(BYTES_OF_B), 1, "");
     listed(cases, "a root alone", &tree(ROOT), 0, "nodes 1\n0 - 203 -\n");
     listed(cases, "a root alone, block 1", &tree(ROOT), 1, "");
@@ -66,9 +70,22 @@ fn values(cases: &mut Cases) {
         let print = format!("nodes {}\n{}\n", nodes, text.replace('/', "\n"));
         listed(cases, name, &tree(text), 0, &print);
     }
+    for (name, text) in [
+        ("a value of 4294967295", "0 - 203 -/1 0 6 4294967295/2 0 1 4294967295/3 0 202 4294967295"),
+        ("values around 65536", "0 - 203 -/1 0 6 65535/2 0 6 65536/3 0 6 65537/4 0 6 131071/5 0 1 99999/6 0 1 100000"),
+        ("values of seven to ten digits", "0 - 203 -/1 0 6 9999999/2 0 6 10000000/3 0 7 16777216/4 0 1 999999999/5 0 1 1000000000"),
+    ] {
+        let nodes = text.matches('/').count() + 1;
+        listed(cases, name, &wide_tree(text), 0, &format!("nodes {}\n{}\n", nodes, text.replace('/', "\n")));
+    }
     let high: Labels = &[(100, 1, "a"), (200, 2, "b")];
     let case = list(&labels(high), &tree("0 - 203 -/1 0 100 -/2 1 200 7"), 0);
     cases.put_bytes("list: labels 100 and 200", case, "listed", b"nodes 3\n0 - 203 -\n1 0 100 -\n2 1 200 7\n");
+}
+
+/// A chain of runs, of kind 3.
+fn chain(count: usize) -> Vec<u8> {
+    nodes::chain(KIND_3, count)
 }
 
 /// The lines of some nodes of a chain of runs: node n has parent n - 1 and label 2. Not for node 0.
@@ -93,6 +110,17 @@ fn blocks_of_4096(cases: &mut Cases) {
     ] {
         listed(cases, &format!("4,096 nodes, block {}", block), &full, block, &text);
     }
+}
+
+/// 4,095 attributes of the longest value below the root: a block of the longest lines.
+fn longest_lines(cases: &mut Cases) {
+    let leaves: Vec<String> = (1..4_096).map(|number| format!("{} 0 202 4294967295", number)).collect();
+    let tree = joined(&[&wide_tree(ROOT), &leaves.iter().flat_map(|line| KIND_5.node(line)).collect::<Vec<u8>>()]);
+    let lines: Vec<String> = ["nodes 4096".to_string(), ROOT.to_string()].into_iter().chain(leaves).collect();
+    for (block, part) in lines.chunks(1_024).enumerate() {
+        listed(cases, &format!("4,095 longest values, block {}", block), &tree, block as u32, &(part.join("\n") + "\n"));
+    }
+    listed(cases, "4,095 longest values, block 5", &tree, 5, "");
 }
 
 /// 1,023 nodes have 1,024 lines, which fill block 0.

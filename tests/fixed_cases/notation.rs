@@ -88,16 +88,48 @@ fn two(text: &str, none: u16) -> [u8; 2] {
     number.to_le_bytes()
 }
 
-/// A tree as the listing prints its nodes, number, parent, label, value, with `/` between the lines.
-pub fn tree(text: &str) -> Vec<u8> {
-    let mut bytes = Vec::new();
-    for (number, line) in text.split('/').enumerate() {
+/// The two kinds of node records (01, "Records"; 02, request 11).
+#[derive(Clone, Copy)]
+pub struct NodeKind {
+    pub kind: u8,
+    pub value_bytes: usize,
+    /// Of a record, and of a tree.
+    pub bytes: usize,
+    pub tree_bytes: usize,
+}
+
+pub const KIND_3: NodeKind = NodeKind { kind: 3, value_bytes: 2, bytes: 9, tree_bytes: 36_864 };
+pub const KIND_5: NodeKind = NodeKind { kind: 5, value_bytes: 4, bytes: 11, tree_bytes: 45_056 };
+
+impl NodeKind {
+    /// A node as the listing prints it: number, parent, label, value. The number is not written.
+    pub fn node(&self, line: &str) -> Vec<u8> {
         let words: Vec<&str> = line.split_whitespace().collect();
-        assert_eq!(words[0], number.to_string(), "{}", text);
         let label = words[2].parse::<u8>().unwrap();
-        bytes.extend(of_kind(3, &[&two(words[1], 65_535)[..], &[label], &two(words[3], 0)].concat()));
+        let value = if words[3] == "-" { 0 } else { words[3].parse::<u32>().unwrap() };
+        let (written, rest) = (value.to_le_bytes(), value as u64 >> (8 * self.value_bytes));
+        assert_eq!(rest, 0, "{}: the value does not fit kind {}", line, self.kind);
+        of_kind(self.kind as u16, &[&two(words[1], 65_535)[..], &[label], &written[..self.value_bytes]].concat())
     }
-    bytes
+
+    /// A tree as the listing prints its nodes, with `/` between the lines.
+    pub fn tree(&self, text: &str) -> Vec<u8> {
+        let numbered = |(number, line): (usize, &str)| {
+            assert_eq!(line.split_whitespace().next(), Some(number.to_string().as_str()), "{}", text);
+            self.node(line)
+        };
+        text.split('/').enumerate().flat_map(numbered).collect()
+    }
+}
+
+/// A tree of records of kind 3.
+pub fn tree(text: &str) -> Vec<u8> {
+    KIND_3.tree(text)
+}
+
+/// The same of kind 5, which alone the decider writes.
+pub fn wide_tree(text: &str) -> Vec<u8> {
+    KIND_5.tree(text)
 }
 
 /// Only a root.

@@ -39,6 +39,8 @@ fn questions(cases: &mut Cases) {
         ("label", "07 00 01 00 08 01 61", "refused 2 2 0"),
         ("label without class", "05 00 01 00 08", "refused 1 2 0"),
         ("node", "09 00 03 00 ff ff cb 00 00", "refused 2 2 0"),
+        ("node of kind 5", "0b 00 05 00 ff ff cb 00 00 00 00", "refused 2 2 0"),
+        ("node of kind 5 with a body of 6", "0a 00 05 00 ff ff cb 00 00 00", "refused 1 2 0"),
         ("proof line", "0d 00 04 00 01 ff ff ff ff 00 00 01 00", "refused 2 2 0"),
         ("kind 0", "08 00 00 00 00 00 01 00", "refused 2 2 0"),
         ("kind 258", "08 00 02 01 00 00 01 00", "refused 2 2 0"),
@@ -101,6 +103,8 @@ fn two_faults_in_one_record(cases: &mut Cases) {
     let one = ["(e,(run,{@id}))"];
     for (name, case, wanted) in [
         ("1 before 2: a node with a body of 1", after(&[], &hex("05 00 03 00 01")), "refused 1 1 6"),
+        ("1 before 2: a node of kind 5 with a body of 5", after(&[], &hex("09 00 05 00 ff ff cb 00 00")), "refused 1 1 6"),
+        ("2: a node of kind 5", after(&[], &hex("0b 00 05 00 ff ff cb 00 00 00 00")), "refused 2 1 6"),
         ("1 before 2: a label after a key without class", after(&one, &hex("05 00 01 00 08")), "refused 1 1 7"),
         ("1 before 2: an unknown kind past the end", after(&[], &hex("06 00 07 00 01")), "refused 1 1 6"),
         ("1 before 3: a label past the end with number 255", after(&[], &hex("08 00 01 00 ff 09 2d")), "refused 1 1 6"),

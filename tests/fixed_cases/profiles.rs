@@ -48,13 +48,14 @@ fn heads_and_bodies(cases: &mut Cases) {
         ("key with a byte left over", "09 00 02 00 00 00 01 00 00"),
         ("node with a body of 1", "05 00 03 00 01"),
         ("node with a body of 6", "0a 00 03 00 ff ff cb 00 00 00"),
+        ("node of kind 5 with a body of 6", "0a 00 05 00 ff ff cb 00 00 00"),
         ("proof line without key", "09 00 04 00 01 ff ff ff ff"),
     ] {
         refuse(cases, name, &hex(bytes), 1);
     }
 }
 
-/// 2: "kind unknown or not allowed here or in this order". 5 and 6 become kinds by later requests and are left alone here.
+/// 2: "kind unknown or not allowed here or in this order". 6 becomes a kind by a later request and is left alone here.
 fn kinds(cases: &mut Cases) {
     for (name, bytes) in [
         ("kind 0", "07 00 00 00 c8 01 61"),
@@ -63,6 +64,7 @@ fn kinds(cases: &mut Cases) {
         ("kind 258 is not kind 2", "08 00 02 01 00 00 01 00"),
         ("kind 65535 without body", "04 00 ff ff"),
         ("node", "09 00 03 00 ff ff cb 00 00"),
+        ("node of kind 5", "0b 00 05 00 ff ff cb 00 00 00 00"),
         ("proof line", "0d 00 04 00 01 ff ff ff ff 00 00 01 00"),
     ] {
         refuse(cases, name, &hex(bytes), 2);

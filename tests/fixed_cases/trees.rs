@@ -7,6 +7,7 @@ pub fn put(cases: &mut Cases) {
     attribute_order(cases);
     deeper_equality(cases);
     labels_and_values(cases);
+    wide_values(cases);
     repeated_attributes(cases);
     targets_that_are_contexts(cases);
     nested_targets(cases);
@@ -17,8 +18,11 @@ pub fn put(cases: &mut Cases) {
     large(cases);
 }
 
+/// As records of either kind.
 fn ask(cases: &mut Cases, name: &str, asked: &str, nodes: &str, wanted: &str) {
-    cases.put(&format!("keep: {}", name), keep(&labels(BENCH), &key(asked), &tree(nodes)), wanted);
+    for of in [KIND_3, KIND_5] {
+        cases.put(&format!("keep, kind {}: {}", of.kind, name), keep(&labels(BENCH), &key(asked), &of.tree(nodes)), wanted);
+    }
 }
 
 /// Two frames below the root, asked for (e,(frame,{e})): broken exactly when they are value-equal.
@@ -104,6 +108,24 @@ fn labels_and_values(cases: &mut Cases) {
         ("two fillers with two values", "(e,(_*,{e}))", "0 - 203 -/1 0 201 -/2 1 202 5/3 0 201 -/4 3 202 6", "kept"),
     ] {
         ask(cases, name, asked, nodes, wanted);
+    }
+}
+
+/// A value of four bytes is compared whole (02, request 11).
+fn wide_values(cases: &mut Cases) {
+    for (name, asked, nodes, wanted) in [
+        ("values 1 and 65537", "(e,(@id,{e}))", "0 - 203 -/1 0 6 1/2 0 6 65537", "kept"),
+        ("values 65537 and 65537", "(e,(@id,{e}))", "0 - 203 -/1 0 6 65537/2 0 6 65537", "broken"),
+        ("values that differ in the third byte", "(e,(#,{e}))", "0 - 203 -/1 0 1 65535/2 0 1 131071", "kept"),
+        ("values that differ in the fourth byte", "(e,(#,{e}))", "0 - 203 -/1 0 1 65536/2 0 1 16842752", "kept"),
+        ("values whose bytes are exchanged", "(e,(#,{e}))", "0 - 203 -/1 0 1 1/2 0 1 16777216/3 0 1 256/4 0 1 65536", "kept"),
+        ("values 4294967295 twice", "(e,(@id,{e}))", "0 - 203 -/1 0 6 4294967295/2 0 6 4294967295", "broken"),
+        ("values 4294967295 and 65535", "(e,(@id,{e}))", "0 - 203 -/1 0 6 4294967295/2 0 6 65535", "kept"),
+        ("low bytes alike below two frames", "(e,(frame,{e}))", "0 - 203 -/1 0 4 -/2 1 6 7/3 0 4 -/4 3 6 65543", "kept"),
+        ("low bytes alike at the end of a key path", "(e,(frame,{@seq}))", "0 - 203 -/1 0 4 -/2 1 7 7/3 0 4 -/4 3 7 65543", "kept"),
+        ("four bytes alike below two frames", "(e,(frame,{e}))", "0 - 203 -/1 0 4 -/2 1 6 65543/3 0 4 -/4 3 6 65543", "broken"),
+    ] {
+        cases.put(&format!("keep: {}", name), keep(&labels(BENCH), &key(asked), &wide_tree(nodes)), wanted);
     }
 }
 
@@ -242,20 +264,23 @@ fn any_paths(cases: &mut Cases) {
     }
 }
 
-/// 4,096 nodes: attributes below the root, all different, or the last two alike.
+/// 4,096 nodes: attributes below the root, all different, or the last two alike. The values of kind 5 agree in their low two bytes.
 fn large(cases: &mut Cases) {
-    let leaves = |last: u16| {
-        let leaf = |number: u16| {
-            let value = if number == 4_095 { last } else { number };
-            joined(&[&hex("09 00 03 00 00 00 06"), &value.to_le_bytes()])
-        };
-        let rest: Vec<u8> = (1..4_096).flat_map(leaf).collect();
-        joined(&[&tree(ROOT), &rest])
-    };
     let (labels, asked) = (labels(BENCH), key("(e,(@id,{e}))"));
-    cases.put("keep: 4,095 different attributes", keep(&labels, &asked, &leaves(4_095)), "kept");
-    cases.put("keep: the last of 4,095 attributes is like the one before", keep(&labels, &asked, &leaves(4_094)), "broken");
-    cases.put("keep: the last of 4,095 attributes is like the first", keep(&labels, &asked, &leaves(1)), "broken");
-    let chain = super::nodes::chain(4_096);
-    cases.put("keep: no two nodes of a chain of 4,096 are equal", keep(&labels, &key("(_*,(_*,{e}))"), &chain), "kept");
+    for (of, step) in [(KIND_3, 1), (KIND_5, 65_536)] {
+        let leaf = |number: usize, value: usize| of.node(&format!("{} 0 6 {}", number, step * value));
+        let leaves = |last: usize| {
+            let rest: Vec<u8> = (1..4_095).flat_map(|number| leaf(number, number)).collect();
+            joined(&[&of.tree(ROOT), &rest, &leaf(4_095, last)])
+        };
+        for (name, tree, wanted) in [
+            ("4,095 different attributes", leaves(4_095), "kept"),
+            ("the last of 4,095 attributes is like the one before", leaves(4_094), "broken"),
+            ("the last of 4,095 attributes is like the first", leaves(1), "broken"),
+        ] {
+            cases.put(&format!("keep, kind {}: {}", of.kind, name), keep(&labels, &asked, &tree), wanted);
+        }
+        let (name, chain) = (format!("keep, kind {}: no two nodes of a chain of 4,096 are equal", of.kind), super::nodes::chain(of, 4_096));
+        cases.put(&name, keep(&labels, &key("(_*,(_*,{e}))"), &chain), "kept");
+    }
 }

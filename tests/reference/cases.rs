@@ -90,22 +90,22 @@ fn easily_wrong(all: &mut Vec<Case>) {
     all.push(case(INCLUDE, &base, &[2, 0, 2], &[0, 2, 2]));
     all.push(case(INCLUDE, &base, &[2, 0, 3], &[0, 2, 3]));
     // Attributes and other children are two lists: these two elements are equal.
-    let node = |parent: u16, label: u8, value: u16| Node { parent, label, value };
+    let node = |parent: u16, label: u8, value: u32| Node { parent, label, value };
     let first = [node(NONE, ROOT, 0), node(0, 2, 0), node(1, 3, 5), node(1, TEXT, 7)];
     let second = [node(0, 2, 0), node(4, TEXT, 7), node(4, 3, 5)];
     let apart = Key { context: vec![], target: vec![2], paths: vec![vec![]] };
-    all.push(case(KEEP, &base, &key_record(&apart), &write_tree(&[&first[..], &second[..]].concat())));
+    all.push(case(KEEP, &base, &key_record(&apart), &write_tree(&[&first[..], &second[..]].concat(), NODE_KIND)));
     // Text and elements are one list: these two are not.
     let third = [node(0, 2, 0), node(4, TEXT, 7), node(4, 4, 0)];
     let fourth = [node(0, 2, 0), node(7, 4, 0), node(7, TEXT, 7)];
     let mixed = [&first[..], &third[..], &fourth[..]].concat();
-    all.push(case(KEEP, &base, &key_record(&apart), &write_tree(&mixed)));
+    all.push(case(KEEP, &base, &key_record(&apart), &write_tree(&mixed, NODE_KIND)));
     // Both key paths have to agree, in one and the same context.
     let pairs = [node(NONE, ROOT, 0), node(0, 2, 0), node(1, 3, 1), node(1, TEXT, 1), node(0, 2, 0), node(4, 3, 1), node(4, TEXT, 2)];
     let both = Key { context: vec![], target: vec![2], paths: vec![vec![TEXT], vec![3]] };
-    all.push(case(KEEP, &base, &key_record(&both), &write_tree(&pairs)));
+    all.push(case(KEEP, &base, &key_record(&both), &write_tree(&pairs, NODE_KIND)));
     let below = Key { context: vec![2], target: vec![3], paths: vec![vec![]] };
-    all.push(case(KEEP, &base, &key_record(&below), &write_tree(&pairs)));
+    all.push(case(KEEP, &base, &key_record(&below), &write_tree(&pairs, NODE_KIND)));
     interactions(all, &base);
 }
 
@@ -180,7 +180,7 @@ fn profile_limits(all: &mut Vec<Case>) {
 fn every_operation(all: &mut Vec<Case>, profile: &[u8]) {
     let asked = key_of(1, 0, &[0]);
     let question = key_record(&asked);
-    let root = write_tree(&[Node { parent: NONE, label: ROOT, value: 0 }]);
+    let root = write_tree(&[Node { parent: NONE, label: ROOT, value: 0 }], WIDE_NODE_KIND);
     let proof = write_proof(&[Line { rule: 1, first: NONE, second: NONE, key: asked }]);
     all.push(case(REWRITE, profile, &[], &[]));
     all.push(Case { number: 2, ..case(BODY, profile, &[], &[]) });
@@ -214,15 +214,17 @@ fn path_limits(all: &mut Vec<Case>) {
 
 const COMB_VALUES: usize = 7;
 
-/// A chain, a star of attributes, a comb with many equal attributes: each of the given number of nodes.
-fn large_trees(size: usize) -> Vec<Vec<Node>> {
+/// A chain, a star of attributes, a comb with many equal attributes: each of the given number of nodes. With four bytes the star's
+/// values agree in the low two by pairs.
+fn large_trees(size: usize, kind: u16) -> Vec<Vec<Node>> {
     let root = Node { parent: NONE, label: ROOT, value: 0 };
     let with_root = |nodes: Vec<Node>| [vec![root], nodes].concat();
     let chain = (1..size).map(|number| Node { parent: number as u16 - 1, label: 2, value: 0 }).collect();
-    let star = (1..size).map(|number| Node { parent: 0, label: 3, value: number as u16 }).collect();
+    let different = |number: u32| if kind == WIDE_NODE_KIND { 65_536 * (number % 2) + number / 2 } else { number };
+    let star = (1..size).map(|number| Node { parent: 0, label: 3, value: different(number as u32) }).collect();
     let tooth = |number: usize| match number % 2 {
         1 => Node { parent: number.saturating_sub(2) as u16, label: 2, value: 0 },
-        _ => Node { parent: number as u16 - 1, label: 3, value: (number % COMB_VALUES) as u16 },
+        _ => Node { parent: number as u16 - 1, label: 3, value: (number % COMB_VALUES) as u32 },
     };
     vec![with_root(chain), with_root(star), with_root((1..size).map(tooth).collect())]
 }
@@ -231,9 +233,9 @@ fn tree_limits(all: &mut Vec<Case>) {
     let base = labels(3, 0);
     let everywhere = Key { context: vec![0], target: vec![0], paths: vec![vec![]] };
     let attributes = Key { context: vec![0], target: vec![2], paths: vec![vec![3]] };
-    for size in [1, 1_023, 1_024, 1_025, 4_095, 4_096, 4_097] {
-        for nodes in large_trees(size) {
-            let bytes = write_tree(&nodes);
+    for (kind, size) in [1, 1_023, 1_024, 1_025, 4_095, 4_096, 4_097].iter().flat_map(|&size| NODE_KINDS.map(|kind| (kind, size))) {
+        for nodes in large_trees(size, kind) {
+            let bytes = write_tree(&nodes, kind);
             for key in [&everywhere, &attributes] {
                 all.push(case(KEEP, &base, &key_record(key), &bytes));
                 all.push(case(CHECK_TREE, &base, &key_record(key), &bytes));
@@ -244,8 +246,28 @@ fn tree_limits(all: &mut Vec<Case>) {
         }
     }
     all.push(Case { room: ROOM - 1, ..case(LIST, &base, &[], &[]) });
-    all.push(case(KEEP, &base, &key_record(&everywhere), &vec![9; TREE_BYTES]));
-    all.push(case(KEEP, &base, &key_record(&everywhere), &vec![9; TREE_BYTES + 1]));
+    // The head of record 0 alone says how large a tree may be.
+    for head in [&[9, 9, 9, 9][..], &[9, 0, 3, 0], &[11, 0, 5, 0], &[3, 0, 5, 0], &[11, 0, 5, 1]] {
+        for size in [3, 4, TREE_BYTES, TREE_BYTES + 1, WIDE_TREE_BYTES, WIDE_TREE_BYTES + 1] {
+            let mut padded = head.to_vec();
+            padded.resize(size, 9);
+            all.push(case(KEEP, &base, &key_record(&everywhere), &padded));
+        }
+    }
+    mixed_kinds(all, &base, &key_record(&everywhere));
+}
+
+/// A tree of three nodes, each record of either kind, whole, cut and with a byte more.
+fn mixed_kinds(all: &mut Vec<Case>, base: &[u8], question: &[u8]) {
+    let nodes = [(NONE, ROOT, 0), (0, 2, 0), (1, 3, 7)].map(|(parent, label, value)| Node { parent, label, value });
+    for chosen in 0..8 {
+        let kind = |at: usize| NODE_KINDS[chosen >> at & 1];
+        let bytes: Vec<u8> = (0..3).flat_map(|at| node_record(&nodes[at], kind(at))).collect();
+        all.push(case(KEEP, base, question, &bytes));
+        all.push(case(LIST, base, &[], &bytes));
+        all.push(case(LIST, base, &[], &bytes[..bytes.len() - 1]));
+        all.push(case(LIST, base, &[], &[bytes, vec![9]].concat()));
+    }
 }
 
 fn proof_limits(all: &mut Vec<Case>) {
@@ -325,18 +347,20 @@ fn include_case(random: &mut Random, asked: &Asked) -> Case {
 /// Trees are small, now and then as large as they may be.
 fn tree_case(random: &mut Random, asked: &Asked) -> Case {
     let size = if random.chance(1, 100) { 200 + random.below(TREE_NODES - 199) } else { 1 + random.below(40) };
-    let nodes = tree(random, &asked.world, size);
+    let kind = node_kind(random);
+    let nodes = tree(random, &asked.world, size, kind);
     let operation = if random.chance(2, 3) { KEEP } else { CHECK_TREE };
     let near = key_on(random, &asked.world, &nodes);
     let key = if random.chance(2, 3) { &near } else { &asked.question };
-    case(operation, &profile_of(asked), &key_record(key), &write_tree(&nodes))
+    case(operation, &profile_of(asked), &key_record(key), &write_tree(&nodes, kind))
 }
 
 /// Some trees have more lines than a block.
 fn list_case(random: &mut Random, asked: &Asked) -> Case {
     let size = if random.chance(1, 20) { 1_000 + random.below(1_200) } else { 1 + random.below(40) };
-    let nodes = tree(random, &asked.world, size);
-    Case { number: random.below(3) as u32, ..case(LIST, &profile_of(asked), &[], &write_tree(&nodes)) }
+    let kind = node_kind(random);
+    let nodes = tree(random, &asked.world, size, kind);
+    Case { number: random.below(3) as u32, ..case(LIST, &profile_of(asked), &[], &write_tree(&nodes, kind)) }
 }
 
 fn derivation_case(random: &mut Random, asked: &Asked) -> Case {
@@ -372,7 +396,7 @@ fn evidence_case(random: &mut Random, asked: &Asked) -> Case {
                 }
             }
             let operation = if random.chance(4, 7) { CHECK_TREE } else { KEEP };
-            case(operation, &profile, &question, &write_tree(&nodes))
+            case(operation, &profile, &question, &write_tree(&nodes, node_kind(random)))
         }
     }
 }

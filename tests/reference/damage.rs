@@ -23,11 +23,11 @@ fn starts(bytes: &[u8]) -> Vec<usize> {
 pub fn damaged(random: &mut Random, bytes: &[u8]) -> Vec<u8> {
     let mut out = bytes.to_vec();
     if out.is_empty() {
-        return random.one_of(&[vec![0], vec![4, 0, 2], vec![4, 0, 2, 0], vec![4, 0, 3, 0], vec![4, 0, 9, 9]]);
+        return random.one_of(&[vec![0], vec![4, 0, 2], vec![4, 0, 2, 0], vec![4, 0, 3, 0], vec![4, 0, 5, 0], vec![4, 0, 9, 9]]);
     }
     let bounds = starts(bytes);
     let records = bounds.len() - 1;
-    match random.below(9) {
+    match random.below(10) {
         0 => out.truncate(random.below(bytes.len())),
         1 => {
             let at = random.below(out.len());
@@ -62,6 +62,10 @@ pub fn damaged(random: &mut Random, bytes: &[u8]) -> Vec<u8> {
         7 if records >= 1 => {
             let i = random.below(records);
             out.drain(bounds[i]..bounds[i + 1]);
+        }
+        8 if records >= 1 => {
+            // Another kind, the length as it was.
+            out[bounds[random.below(records)] + 2] = random.one_of(&[1, 2, 3, 4, 5]);
         }
         _ => {
             let at = random.below(out.len() + 1);
@@ -131,8 +135,23 @@ fn spoil_node(random: &mut Random, number: usize, node: &mut Node) {
         0 => node.parent = random.one_of(&[0, number as u16, number as u16 + 1, NONE - 1, NONE]),
         1 => node.parent = random.below(number + 1) as u16,
         2 => node.label = random.one_of(&[0, TEXT, 5, 200, 201, 202, ROOT, 204, 255]),
-        _ => node.value = random.one_of(&[0, 1, 256, NONE]),
+        _ => node.value = random.one_of(&[0, 1, 256, 65_535, 65_536, u32::MAX]),
     }
+}
+
+/// A node record with one fault, or as a whole record of the other kind. A value that kind 3 cannot hold loses its high bytes.
+fn spoiled_node(random: &mut Random, number: usize, kind: u16, body: &[u8]) -> Vec<u8> {
+    let mut node = read_node(body);
+    let mut kind = kind;
+    if random.chance(1, 4) {
+        kind = NODE_KIND + WIDE_NODE_KIND - kind;
+    } else {
+        spoil_node(random, number, &mut node);
+    }
+    if kind == NODE_KIND {
+        node.value %= 65_536;
+    }
+    node_record(&node, kind)
 }
 
 /// A profile, question, tree or proof with one or two faults inside its records.
@@ -175,12 +194,7 @@ fn spoiled_once(random: &mut Random, world: &World, bytes: &[u8]) -> Vec<u8> {
                 record(LINE_KIND, &[&body[..5], &key_body(&key)].concat())
             }
         },
-        NODE_KIND if body.len() == 5 => {
-            let two = |at: usize| body[at] as u16 + 256 * body[at + 1] as u16;
-            let mut node = Node { parent: two(0), label: body[2], value: two(3) };
-            spoil_node(random, chosen, &mut node);
-            node_record(&node)
-        }
+        NODE_KIND | WIDE_NODE_KIND if body.len() == 3 + value_bytes(kind) => spoiled_node(random, chosen, kind, body),
         _ => return bytes.to_vec(),
     };
     let mut out = bytes.to_vec();

@@ -145,10 +145,10 @@ fn write_nodes(
         if profile.classes.of(label) == Some(Class::Element) {
             tree.push(Node { parent, label, value: 0 });
             let twin = if wrong(9) { None } else { twin };
-            let value = twin.map_or(number + 1, |first| first + 1) as u16;
+            let value = twin.map_or(number + 1, |first| first + 1) as u32;
             tree.push(Node { parent: number as u16, label: FILLER_ATTRIBUTE, value });
         } else {
-            tree.push(Node { parent, label, value: twin.unwrap_or(number) as u16 });
+            tree.push(Node { parent, label, value: twin.unwrap_or(number) as u32 });
         }
     }
 }

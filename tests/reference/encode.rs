@@ -1,5 +1,5 @@
 //! The bytes of records (01, "Records").
-use super::records::{Key, Label, Line, Node, Profile, KEY_KIND, LABEL_KIND, LINE_KIND, NODE_KIND};
+use super::records::{value_bytes, Key, Label, Line, Node, Profile, KEY_KIND, LABEL_KIND, LINE_KIND};
 
 fn put_two(out: &mut Vec<u8>, number: u16) {
     out.push((number % 256) as u8);
@@ -35,12 +35,16 @@ pub fn key_record(key: &Key) -> Vec<u8> {
     record(KEY_KIND, &key_body(key))
 }
 
-pub fn node_record(node: &Node) -> Vec<u8> {
+/// The value has to fit the kind.
+pub fn node_record(node: &Node, kind: u16) -> Vec<u8> {
     let mut body = Vec::new();
     put_two(&mut body, node.parent);
     body.push(node.label);
-    put_two(&mut body, node.value);
-    record(NODE_KIND, &body)
+    let value = node.value.to_le_bytes();
+    let (written, rest) = value.split_at(value_bytes(kind));
+    assert!(rest.iter().all(|&byte| byte == 0), "value {} in a record of kind {}", node.value, kind);
+    body.extend_from_slice(written);
+    record(kind, &body)
 }
 
 pub fn line_record(line: &Line) -> Vec<u8> {
@@ -62,8 +66,9 @@ pub fn write_profile(profile: &Profile) -> Vec<u8> {
     out
 }
 
-pub fn write_tree(nodes: &[Node]) -> Vec<u8> {
-    nodes.iter().flat_map(node_record).collect()
+/// The nodes as records of one kind, 3 or 5.
+pub fn write_tree(nodes: &[Node], kind: u16) -> Vec<u8> {
+    nodes.iter().flat_map(|node| node_record(node, kind)).collect()
 }
 
 pub fn write_proof(lines: &[Line]) -> Vec<u8> {

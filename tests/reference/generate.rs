@@ -213,8 +213,19 @@ pub fn asked(random: &mut Random) -> Asked {
     Asked { world, profile, question }
 }
 
-/// A tree of few labels and values, in which whole subtrees are written again.
-pub fn tree(random: &mut Random, world: &World, size: usize) -> Vec<Node> {
+/// Half of the trees have records of each kind.
+pub fn node_kind(random: &mut Random) -> u16 {
+    random.one_of(&NODE_KINDS)
+}
+
+/// A value of few, for a record of that kind. With four bytes some agree in the low two alone.
+fn value(random: &mut Random, values: usize, kind: u16) -> u32 {
+    let high = if kind == WIDE_NODE_KIND && random.chance(1, 3) { random.one_of(&[1, 256, 65_535]) } else { 0 };
+    65_536 * high + random.below(values) as u32
+}
+
+/// A tree of few labels and values, in which whole subtrees are written again; its values fit records of that kind.
+pub fn tree(random: &mut Random, world: &World, size: usize, kind: u16) -> Vec<Node> {
     let mut nodes = vec![Node { parent: NONE, label: ROOT, value: 0 }];
     let values = 1 + random.below(4);
     while nodes.len() < size {
@@ -233,7 +244,7 @@ pub fn tree(random: &mut Random, world: &World, size: usize) -> Vec<Node> {
         } else {
             random.one_of(&world.last_only)
         };
-        let value = if world.classes.is_last_only(label) { random.below(values) as u16 } else { 0 };
+        let value = if world.classes.is_last_only(label) { value(random, values, kind) } else { 0 };
         nodes.push(Node { parent: parent as u16, label, value });
     }
     // Last, elements with something below them, whose copies then stay as they are.
@@ -246,18 +257,18 @@ pub fn tree(random: &mut Random, world: &World, size: usize) -> Vec<Node> {
         }
     }
     if size < 1_000 && random.chance(1, 3) {
-        reordered_twins(random, world, &mut nodes);
+        reordered_twins(random, world, &mut nodes, kind);
     }
     nodes
 }
 
 /// Two elements next to each other that have the same attributes in two orders: of the first's, the first comes last.
-fn reordered_twins(random: &mut Random, world: &World, nodes: &mut Vec<Node>) {
+fn reordered_twins(random: &mut Random, world: &World, nodes: &mut Vec<Node>, kind: u16) {
     let parents: Vec<usize> = (0..nodes.len()).filter(|&node| !world.classes.is_last_only(nodes[node].label)).collect();
     let (parent, label) = (random.one_of(&parents) as u16, random.one_of(&world.elements));
     let names: Vec<u8> = world.last_only.iter().map(|&last| if last == TEXT { FILLER_ATTRIBUTE } else { last }).collect();
-    let mut attributes: Vec<(u8, u16)> =
-        (0..2 + random.below(2)).map(|_| (random.one_of(&names), random.below(3) as u16)).collect();
+    let mut attributes: Vec<(u8, u32)> =
+        (0..2 + random.below(2)).map(|_| (random.one_of(&names), value(random, 3, kind))).collect();
     for _ in 0..2 {
         let twin = nodes.len() as u16;
         nodes.push(Node { parent, label, value: 0 });
@@ -266,7 +277,7 @@ fn reordered_twins(random: &mut Random, world: &World, nodes: &mut Vec<Node>) {
     }
 }
 
-/// Writes a node with what lies below it once more, a value perhaps changed, the attributes perhaps
+/// Writes a node with what lies below it once more, a value perhaps changed (one over two bytes in those above), the attributes perhaps
 /// after everything else, and perhaps in another order among themselves.
 fn copy_below(random: &mut Random, world: &World, nodes: &mut Vec<Node>, copied: usize, size: usize) {
     let last = nodes.len();
@@ -293,8 +304,12 @@ fn copy_below(random: &mut Random, world: &World, nodes: &mut Vec<Node>, copied:
         let old = nodes[node];
         let parent = if node == copied { old.parent } else { place[old.parent as usize] };
         place[node] = nodes.len() as u16;
-        let changed = old.value != 0 && random.chance(1, 10);
-        let value = if changed { old.value - 1 } else { old.value };
+        let value = match old.value {
+            0 => 0,
+            same if !random.chance(1, 10) => same,
+            wide if wide > 65_535 => wide % 65_536,
+            other => other - 1,
+        };
         nodes.push(Node { parent, label: old.label, value });
     }
 }

@@ -35,7 +35,7 @@ static WRONG: AtomicUsize = AtomicUsize::new(0);
 
 /// What each wrong line does, by its number less one, and the operations of whose answers in the
 /// stream of seed 1 it changes some.
-pub const WRONG_LINES: [(&[u8], &str); 14] = [
+pub const WRONG_LINES: [(&[u8], &str); 15] = [
     (&[INCLUDE, KEEP, CHECK_PROOF, CHECK_TREE, DECIDE], "membership: an any-path consumes at least one label"),
     (&[INCLUDE], "inclusion: 201 and 202 are left out of the labels"),
     (&[KEEP, CHECK_TREE], "value equality: attributes and other children are one list"),
@@ -50,6 +50,7 @@ pub const WRONG_LINES: [(&[u8], &str); 14] = [
     (&[CHECK_TREE], "counterexample check: the first profile key alone is tried"),
     (&[BODY], "body: the first record has number 1"),
     (&[KEEP, CHECK_TREE], "value equality: attributes in table order"),
+    (&[KEEP, CHECK_TREE], "value equality: values compared in their low two bytes"),
 ];
 
 pub fn choose_wrong_line(number: usize) {

@@ -93,7 +93,7 @@ pub fn decide(profile: &[u8], question: &[u8], answer: usize) -> Result<Decision
         Verdict::NotImplied { u } => {
             let nodes = counterexample(&pattern, u, &profile);
             assert!(nodes.len() <= MOST_NODES, "a written tree of {} nodes", nodes.len());
-            Ok(Decision::NotImplied(write_tree(&nodes)))
+            Ok(Decision::NotImplied(write_tree(&nodes, WIDE_NODE_KIND)))
         }
     }
 }

@@ -8,6 +8,7 @@ pub use super::encode::*;
 
 pub const PROFILE_BYTES: usize = 16_384;
 pub const TREE_BYTES: usize = 36_864;
+pub const WIDE_TREE_BYTES: usize = 45_056;
 pub const PROOF_BYTES: usize = 65_536;
 pub const ANSWER_BYTES: usize = 65_536;
 pub const PROFILE_KEYS: usize = 64;
@@ -25,6 +26,9 @@ pub const LABEL_KIND: u16 = 1;
 pub const KEY_KIND: u16 = 2;
 pub const NODE_KIND: u16 = 3;
 pub const LINE_KIND: u16 = 4;
+/// A node record with a value of four bytes (02, request 11).
+pub const WIDE_NODE_KIND: u16 = 5;
+pub const NODE_KINDS: [u16; 2] = [NODE_KIND, WIDE_NODE_KIND];
 
 #[derive(Clone, Copy, PartialEq, Eq, Debug)]
 pub struct Refusal {
@@ -62,7 +66,7 @@ pub struct Profile {
 pub struct Node {
     pub parent: u16,
     pub label: u8,
-    pub value: u16,
+    pub value: u32,
 }
 
 #[derive(Clone, PartialEq, Eq, Debug)]
@@ -86,6 +90,15 @@ pub const LINE_SIZES: KeySizes = KeySizes { path: 32, key_path: 16, count: 64 };
 
 fn two(bytes: &[u8], at: usize) -> u16 {
     bytes[at] as u16 + 256 * bytes[at + 1] as u16
+}
+
+/// How many bytes the value of a node record has.
+pub fn value_bytes(kind: u16) -> usize {
+    if kind == WIDE_NODE_KIND {
+        4
+    } else {
+        2
+    }
 }
 
 /// The kind of the next record, if its 4 head bytes are there.
@@ -130,7 +143,7 @@ fn body_fits(kind: u16, body: &[u8]) -> bool {
     match kind {
         LABEL_KIND => body.len() >= 2,
         KEY_KIND => read_key(body).is_some(),
-        NODE_KIND => body.len() == 5,
+        NODE_KIND | WIDE_NODE_KIND => body.len() == 3 + value_bytes(kind),
         LINE_KIND => body.len() >= 5 && read_key(&body[5..]).is_some(),
         _ => true,
     }
@@ -268,9 +281,24 @@ fn is_node(node: &Node, before: &[Node], classes: &Classes) -> bool {
     value_fits && parent_fits && label_fits
 }
 
+/// A node's body: parent, label, and as its value what is left.
+pub fn read_node(body: &[u8]) -> Node {
+    let value = body[3..].iter().rev().fold(0, |high, &byte| 256 * high + byte as u32);
+    Node { parent: two(body, 0), label: body[2], value }
+}
+
+/// The kind of all of a tree's records, which is that of record 0, and how many bytes the tree may have.
+fn tree_kind(bytes: &[u8]) -> (u16, usize) {
+    match kind_of(bytes) {
+        Some(WIDE_NODE_KIND) => (WIDE_NODE_KIND, WIDE_TREE_BYTES),
+        _ => (NODE_KIND, TREE_BYTES),
+    }
+}
+
 pub fn read_tree(bytes: &[u8], classes: &Classes) -> Result<Vec<Node>, Refusal> {
     let mut nodes: Vec<Node> = Vec::new();
-    if bytes.len() > TREE_BYTES {
+    let (node_kind, most_bytes) = tree_kind(bytes);
+    if bytes.len() > most_bytes {
         return refuse(7, TREE_OR_PROOF, 0);
     }
     if bytes.is_empty() {
@@ -279,17 +307,17 @@ pub fn read_tree(bytes: &[u8], classes: &Classes) -> Result<Vec<Node>, Refusal> 
     let mut rest = bytes;
     while !rest.is_empty() {
         let record = nodes.len();
-        if nodes.len() == TREE_NODES && kind_of(rest) == Some(NODE_KIND) {
+        if nodes.len() == TREE_NODES && kind_of(rest) == Some(node_kind) {
             return refuse(7, TREE_OR_PROOF, record);
         }
         let (kind, body, after) = match first_record(rest) {
             None => return refuse(1, TREE_OR_PROOF, record),
             Some(parts) => parts,
         };
-        if kind != NODE_KIND {
+        if kind != node_kind {
             return refuse(2, TREE_OR_PROOF, record);
         }
-        let node = Node { parent: two(body, 0), label: body[2], value: two(body, 3) };
+        let node = read_node(body);
         if !is_node(&node, &nodes, classes) {
             return refuse(8, TREE_OR_PROOF, record);
         }

@@ -39,7 +39,7 @@ fn candidates(random: &mut Random, profile: &Profile, question: &Key) -> Vec<Vec
     let mut trees = Vec::new();
     for _ in 0..RANDOM_TREES {
         let size = 1 + random.below(RANDOM_NODES);
-        trees.push(tree(random, &world, size));
+        trees.push(tree(random, &world, size, WIDE_NODE_KIND));
     }
     let pattern = Pattern::of(question);
     for node in pattern.q..pattern.t {
@@ -53,7 +53,7 @@ fn candidates(random: &mut Random, profile: &Profile, question: &Key) -> Vec<Vec
 /// The tree with some values taken from other nodes.
 fn with_other_values(random: &mut Random, nodes: &[Node], profile: &Profile) -> Vec<Node> {
     let has_value = |node: &Node| profile.classes.is_last_only(node.label);
-    let values: Vec<u16> = nodes.iter().filter(|node| has_value(node)).map(|node| node.value).collect();
+    let values: Vec<u32> = nodes.iter().filter(|node| has_value(node)).map(|node| node.value).collect();
     let mut changed = nodes.to_vec();
     for node in changed.iter_mut().filter(|node| has_value(node)) {
         if random.chance(1, 4) {

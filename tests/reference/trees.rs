@@ -218,11 +218,15 @@ fn meet(xs: &[usize], ys: &[usize]) -> bool {
 /// parents, so from the back each node's children have theirs already. Attributes are paired in any
 /// order exactly when their sorted numbers are the same.
 fn worths(nodes: &[Node], classes: &Classes, children: &[Vec<usize>]) -> Vec<usize> {
-    let mut known: HashMap<(u8, u16, Vec<usize>, Vec<usize>), usize> = HashMap::new();
+    let mut known: HashMap<(u8, u32, Vec<usize>, Vec<usize>), usize> = HashMap::new();
     let mut worth = vec![0; nodes.len()];
     for number in (0..nodes.len()).rev() {
         let node = &nodes[number];
-        let value = if classes.of(node.label) == Some(Class::Element) { 0 } else { node.value };
+        let value = match classes.of(node.label) {
+            Some(Class::Element) => 0,
+            _ if wrong(15) => node.value % 65_536,
+            _ => node.value,
+        };
         let mut attributes = Vec::new();
         let mut others = Vec::new();
         for &child in &children[number] {

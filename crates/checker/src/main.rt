@@ -15,7 +15,7 @@ const QUESTION_READ: usize = 131071;
 
 const PROOF_READ: usize = 65537;
 
-const TREE_READ: usize = 36865;
+const TREE_READ: usize = 45057;
 
 // The program's own name, the word and the three files
 const WORDS: usize = 5;

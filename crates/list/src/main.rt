@@ -10,7 +10,7 @@ use listings::list_block;
 // One byte more than an input's size, so that a larger one is refused.
 const PROFILE_ROOM: usize = 16385;
 
-const TREE_ROOM: usize = 36865;
+const TREE_ROOM: usize = 45057;
 
 const ANSWER_ROOM: usize = 65536;
 

@@ -33,6 +33,10 @@ nodeKind = 3
 abbrev pub lineKind : ℕ
 lineKind = 4
 
+-- "Node records get a four-byte value as kind 5"
+abbrev pub wideKind : ℕ
+wideKind = 5
+
 abbrev pub elementClass : ℕ
 elementClass = 1
 
@@ -43,12 +47,12 @@ attributeClass = 2
 abbrev pub noNumber : ℕ
 noNumber = 65535
 
--- "Every record: length of the whole record (two bytes, little-endian), kind (two bytes), body"; node and line fields before a key body
+-- "Every record: length of the whole record (two bytes, little-endian), kind (two bytes), body"; node fields before the value, line fields before a key body
 abbrev pub headBytes : ℕ
 headBytes = 4
 
-abbrev pub nodeBody : ℕ
-nodeBody = 5
+abbrev pub nodeFields : ℕ
+nodeFields = 3
 
 abbrev pub lineFields : ℕ
 lineFields = 5
@@ -68,6 +72,10 @@ treeNodes = 4096
 
 abbrev pub treeBytes : ℕ
 treeBytes = 36864
+
+-- "The limit of a tree whose record 0 is kind 5 is 45,056 bytes, still 4,096 nodes."
+abbrev pub wideTreeBytes : ℕ
+wideTreeBytes = 45056
 
 abbrev pub proofBytes : ℕ
 proofBytes = 65536

@@ -5,7 +5,7 @@ use mathlib.Core.Bool.{Bool, true, false, cond, _&&_}
 use mathlib.Core.List.{List, [], _∷_, _++_, map, flatten, List·Memᴰ}
 use lib.Dec.{T, leb, ltb, eqb}
 use lib.ListN.{length, getD, take}
-use Rattle.meaning.specs.Limits.{fillerElement, fillerAttribute, rootLabel, noNumber}
+use Rattle.meaning.specs.Limits.{fillerElement, fillerAttribute, rootLabel, noNumber, wideKind}
 use Rattle.meaning.specs.Lists.{Each, any, isEmpty, numbers}
 use Rattle.meaning.specs.Paths.{Class, isElement}
 use Rattle.meaning.specs.Trees.{Table, Node, noNode, tableOf, Child, Reached}
@@ -131,5 +131,6 @@ module _ (κ : ℕ → Class) (asked : Key) where
       let all = length dressedNodes in
       map (writtenNode cut 0) (numbers all 0) ++ map (writtenNode cut (all - cut)) (numbers (all - cut) cut)
 
+  -- "The decider writes kind 5 only"
   unfoldable pub writtenTree : ℕ → List ℕ
-  writtenTree u = flatten (map nodeBytes (writtenNodes u))
+  writtenTree u = flatten (map (nodeBytes wideKind) (writtenNodes u))

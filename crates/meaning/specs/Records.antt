@@ -1,11 +1,11 @@
 -- Records as bytes, each reading and each encoding: document 01, "Records".
 use Prim.Native.Nat.{ℕ, zero, suc, _+_, _*_, _/_, _%_, _-_}
-use mathlib.Core.Bool.{Bool, true, false, cond, _&&_}
+use mathlib.Core.Bool.{Bool, true, false, cond, _&&_, _||_}
 use mathlib.Core.List.{List, [], _∷_, _++_, map, flatten}
 use mathlib.Core.Option.{Option, none, some, Option·getD}
 use lib.Dec.{leb, eqb}
 use lib.ListN.{length, getD, take, drop}
-use Rattle.meaning.specs.Limits.{labelKind, keyKind, nodeKind, lineKind, headBytes, nodeBody, lineFields}
+use Rattle.meaning.specs.Limits.{labelKind, keyKind, nodeKind, lineKind, wideKind, headBytes, nodeFields, lineFields}
 use Rattle.meaning.specs.Paths.{Label}
 use Rattle.meaning.specs.Trees.{Node}
 use Rattle.meaning.specs.Keys.{Key}
@@ -17,6 +17,15 @@ word l i = getD l i 0 + 256 * getD l (i + 1) 0
 
 unfoldable pub wordBytes : ℕ → List ℕ
 wordBytes n = n % 256 ∷ n / 256 % 256 ∷ []
+
+-- the same over any width: the number that bytes say, and so many bytes of a number
+unfoldable pub number : List ℕ → ℕ
+number [] = 0
+number (b ∷ l) = b + 256 * number l
+
+unfoldable pub numberBytes : ℕ → ℕ → List ℕ
+numberBytes zero n = []
+numberBytes (suc width) n = n % 256 ∷ numberBytes width (n / 256)
 
 -- "Every record: length of the whole record (two bytes, little-endian), kind (two bytes), body." The record stands at the front
 unfoldable pub recordLength : List ℕ → ℕ
@@ -84,12 +93,15 @@ keyBody k = pathBytes (k .context) ++ (pathBytes (k .target) ++ (length (k .path
 unfoldable pub keyBytes : Key → List ℕ
 keyBytes k = recordBytes keyKind (keyBody k)
 
--- Kind 3: "parent (2), label (1), value (2)"
-unfoldable pub readNode : List ℕ → Node
-readNode body = record { parent = word body 0; label = getD body 2 0; value = word body 3 }
+-- Kind 3: "parent (2), label (1), value (2)"; "a four-byte value as kind 5, 11 bytes long; kind 3 is still read, its value unchanged"
+unfoldable pub valueBytes : ℕ → ℕ
+valueBytes kind = cond (eqb kind wideKind) 4 2
 
-unfoldable pub nodeBytes : Node → List ℕ
-nodeBytes n = recordBytes nodeKind (wordBytes (n .parent) ++ (n .label ∷ wordBytes (n .value)))
+unfoldable pub readNode : List ℕ → Node
+readNode body = record { parent = word body 0; label = getD body 2 0; value = number (drop nodeFields body) }
+
+unfoldable pub nodeBytes : ℕ → Node → List ℕ
+nodeBytes kind n = recordBytes kind (wordBytes (n .parent) ++ (n .label ∷ numberBytes (valueBytes kind) (n .value)))
 
 -- Kind 4: "rule (1), first premise (2), second premise (2), a key body"
 unfoldable pub readLine : List ℕ → Line
@@ -107,5 +119,5 @@ unfoldable pub bodyEnds : ℕ → List ℕ → Bool
 bodyEnds kind body =
     cond (eqb kind labelKind) (leb 2 (length body))
     (cond (eqb kind keyKind) (isSome (readKey body))
-    (cond (eqb kind nodeKind) (eqb (length body) nodeBody)
+    (cond (eqb kind nodeKind || eqb kind wideKind) (eqb (length body) (nodeFields + valueBytes kind))
     (cond (eqb kind lineKind) (leb lineFields (length body) && isSome (readKey (drop lineFields body))) true)))

@@ -170,14 +170,22 @@ goodBelow labels nodes n =
     ltb (n .parent) (length nodes) && isElement (classOf labels (getD nodes (n .parent) noNode .label)) && isLabel labels (n .label)
     && (not (isElement (classOf labels (n .label))) || eqb (n .value) 0)
 
-unfoldable pub treeTests : List Label → List Node → List ℕ → List (ℕ × Bool)
-treeTests labels nodes l =
-    (7, tooMany Limits.nodeKind Limits.treeNodes (length nodes) l) ∷ (1, not (whole l)) ∷ (2, not (eqb (recordKind l) Limits.nodeKind))
+-- A file's node records are of the kind of its record 0, whose 4 head bytes decide: "a file that mixes the kinds gives 2 at the first record
+-- that differs"
+unfoldable pub nodeKindIn : List ℕ → ℕ
+nodeKindIn bytes = cond (leb Limits.headBytes (length bytes) && eqb (recordKind bytes) Limits.wideKind) Limits.wideKind Limits.nodeKind
+
+unfoldable pub treeLimit : ℕ → ℕ
+treeLimit kind = cond (eqb kind Limits.wideKind) Limits.wideTreeBytes Limits.treeBytes
+
+unfoldable pub treeTests : ℕ → List Label → List Node → List ℕ → List (ℕ × Bool)
+treeTests kind labels nodes l =
+    (7, tooMany kind Limits.treeNodes (length nodes) l) ∷ (1, not (whole l)) ∷ (2, not (eqb (recordKind l) kind))
     ∷ (8, not (cond (isEmpty nodes) (goodRoot (readNode (recordBody l))) (goodBelow labels nodes (readNode (recordBody l))))) ∷ []
 
 unfoldable pub treeWalked : List Label → List ℕ → Walked (List Node)
 treeWalked labels bytes =
-    walk (treeTests labels) (λ (nodes : List Node) (l : List ℕ). nodes ++ (readNode (recordBody l) ∷ [])) 0 0 [] bytes
+    walk (treeTests (nodeKindIn bytes) labels) (λ (nodes : List Node) (l : List ℕ). nodes ++ (readNode (recordBody l) ∷ [])) 0 0 [] bytes
 
 unfoldable pub nodesIn : List Label → List ℕ → List Node
 nodesIn labels bytes = treeWalked labels bytes .state
@@ -187,7 +195,7 @@ unfoldable pub treeRefusal : List Label → List ℕ → Refusal
 treeRefusal labels bytes =
     let w = treeWalked labels bytes in
     firstRefusal
-    (oversize 3 Limits.treeBytes bytes ∷ record { number = w .number; input = 3; place = w .at }
+    (oversize 3 (treeLimit (nodeKindIn bytes)) bytes ∷ record { number = w .number; input = 3; place = w .at }
     ∷ cond (isEmpty bytes) (record { number = 8; input = 3; place = 0 }) sound ∷ [])
 
 -- A proof line up to 6; whether it follows (9) is asked of the lines so read

@@ -21,7 +21,7 @@ const ANSWER_ROOM: usize = 65536;
 
 const QUESTION_ROOM: usize = 131071;
 
-const TREE_ROOM: usize = 36865;
+const TREE_ROOM: usize = 45057;
 
 fn usage() {
     print(

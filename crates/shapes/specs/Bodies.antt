@@ -11,7 +11,7 @@ use lib.Seq.{take-all}
 use borrow.Rule.Slice.PartAt.{part-to-end}
 use borrow.Author.Tests.{le-leb, lt-leb, ne-eqb, leb-true, not-true, not-false}
 use Rattle.meaning.specs.Lists.{isEmpty}
-use Rattle.meaning.specs.Records.{word, recordLength, recordKind, recordBody, readKey, isSome, bodyEnds}
+use Rattle.meaning.specs.Records.{word, recordLength, recordKind, recordBody, readKey, isSome, valueBytes, bodyEnds}
 use Rattle.meaning.specs.Refusals.{whole}
 use Rattle.shapes.specs.Parts.{holdsPath, leadPath, afterPath, pathsEnd, setEnds, setIn, keyEnds, isSome-parts}
 
@@ -97,8 +97,12 @@ module _ (kind : ℕ) (body : List ℕ) where
   ends-key e h = rw (e, h)
 
   pub ends-node : kind ≡ 3 → eqb (length body) 5 ≡ bodyEnds kind body
-  unfolding bodyEnds
+  unfolding bodyEnds valueBytes
   ends-node e = rw e
+
+  pub ends-wide : kind ≡ 5 → eqb (length body) 7 ≡ bodyEnds kind body
+  unfolding bodyEnds valueBytes
+  ends-wide e = rw e
 
   pub ends-line-short : kind ≡ 4 → length body < 5 → false ≡ bodyEnds kind body
   unfolding bodyEnds
@@ -108,9 +112,9 @@ module _ (kind : ℕ) (body : List ℕ) where
   unfolding bodyEnds
   ends-line e h k = rw (e, le-leb 5 (length body) h, k, part-to-end body 5)
 
-  pub ends-unknown : (kind ≡ 1 → ⊥) → (kind ≡ 2 → ⊥) → (kind ≡ 3 → ⊥) → (kind ≡ 4 → ⊥) → true ≡ bodyEnds kind body
+  pub ends-unknown : (kind ≡ 1 → ⊥) → (kind ≡ 2 → ⊥) → (kind ≡ 3 → ⊥) → (kind ≡ 5 → ⊥) → (kind ≡ 4 → ⊥) → true ≡ bodyEnds kind body
   unfolding bodyEnds
-  ends-unknown a b c d = rw (ne-eqb kind 1 a, ne-eqb kind 2 b, ne-eqb kind 3 c, ne-eqb kind 4 d)
+  ends-unknown a b c w d = rw (ne-eqb kind 1 a, ne-eqb kind 2 b, ne-eqb kind 3 c, ne-eqb kind 5 w, ne-eqb kind 4 d)
 
 module _ (l : List ℕ) where
   pub whole-head : length l < 4 → false ≡ whole l

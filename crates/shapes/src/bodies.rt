@@ -17,10 +17,14 @@ pub const KEY_KIND: usize = 2;
 pub const NODE_KIND: usize = 3;
 
 pub const LINE_KIND: usize = 4;
-// "number, class .., name, the rest"; "parent (2), label (1), value (2)"; "rule (1), first premise (2), second premise (2), a key body"
+
+pub const WIDE_KIND: usize = 5;
+// "number, class .., name, the rest"; "parent (2), label (1), value (2)", or value (4); "rule (1), first premise (2), second premise (2), a key body"
 pub const LABEL_FIELDS: usize = 2;
 
 pub const NODE_BODY: usize = 5;
+
+pub const WIDE_BODY: usize = 7;
 
 pub const LINE_FIELDS: usize = 5;
 
@@ -99,6 +103,9 @@ pub fn body_ends(kind: usize, body: &[u8]) -> bool
     }
     if kind == NODE_KIND {
         return body.len() == NODE_BODY;
+    }
+    if kind == WIDE_KIND {
+        return body.len() == WIDE_BODY;
     }
     if kind == LINE_KIND {
         if body.len() < LINE_FIELDS {

@@ -1,14 +1,14 @@
 -- The written tree is an accepted tree file, and its bytes say exactly its nodes.
 use Prim.Native.Nat.{ℕ, zero, suc, _≤_, _<_}
 use mathlib.Core.Path.{_≡_, refl, sym, ap, subst, _∙_}
-use mathlib.Core.Logic.{⊎-elim}
+use mathlib.Core.Logic.{inr, ⊎-elim}
 use mathlib.Core.Bool.{Bool, true, false, not, _&&_, _||_}
 use mathlib.Core.List.{List, [], _∷_}
 use native.Mathlib.Omega.{arith}
 use native.Mathlib.Nat.{le-of-lt}
 use lib.Dec.{T, eqb}
 use lib.ListN.{length, getD}
-use Rattle.meaning.specs.Limits.{KeyLimits, inProfile, fillerAttribute, rootLabel, noNumber}
+use Rattle.meaning.specs.Limits.{KeyLimits, inProfile, fillerAttribute, rootLabel, noNumber, wideKind}
 use Rattle.meaning.specs.Lists.{Each}
 use Rattle.meaning.specs.Lists.Each.{end, also}
 use Rattle.meaning.specs.Paths.{Class, Label, declared, isLabel, element, isElement, classOf}
@@ -19,6 +19,7 @@ use Rattle.meaning.specs.Pattern.{qOf, tOf, patternNodes, writtenNodes, written
 use Rattle.theory_paths.specs.Bools.{true-of, or-right}
 use Rattle.theory_paths.specs.Good.{GoodLabels, GoodKey, class-root}
 use Rattle.theory_records.specs.TreeFiles.{NodeBelow, NodesGood}
+use Rattle.meaning.specs.Records.{valueBytes}
 use Rattle.theory_records.specs.Written.{NodeFits}
 use Rattle.theory_records.specs.WrittenInputs.{tree-written-sound, nodes-in-written}
 use Rattle.theory_counter.specs.PatternLaws.{pattern-length, pattern-known}
@@ -80,14 +81,14 @@ module _ (labels : List Label) (good : GoodLabels labels) (limits : KeyLimits) (
   counter-good = record { root = good-root; below = good-node }
 
 module _ (labels : List Label) (good : GoodLabels labels) (asked : Key) (g : GoodKey labels inProfile asked) (u : ℕ) (q : qOf asked ≤ u) (h : u < tOf asked) where
-  fits : (n : ℕ) → n < length (writtenNodes (classOf labels) asked u) → NodeFits (getD (writtenNodes (classOf labels) asked u) n noNode)
+  fits : (n : ℕ) → n < length (writtenNodes (classOf labels) asked u) → NodeFits wideKind (getD (writtenNodes (classOf labels) asked u) n noNode)
   fits n l =
       record {
         parent = above n l;
         value =
             let v = value-within (classOf labels) asked u (inside labels good inProfile asked g u h) n l in
             let m = written-most (classOf labels) labels asked g u q (le-of-lt h) in
-            omega arith;
+            unfold valueBytes in omega arith;
       }
     where
       above : (n : ℕ) → n < length (writtenNodes (classOf labels) asked u) → getD (writtenNodes (classOf labels) asked u) n noNode .parent < 65536
@@ -101,7 +102,7 @@ module _ (labels : List Label) (good : GoodLabels labels) (asked : Key) (g : Goo
   unfolding tableOf
   some-nodes = counter-tree labels good inProfile asked g u h .some
 
-  all-fit : Each NodeFits (writtenNodes (classOf labels) asked u)
+  all-fit : Each (NodeFits wideKind) (writtenNodes (classOf labels) asked u)
   all-fit = each-index noNode (writtenNodes (classOf labels) asked u) fits
 
   few-nodes : length (writtenNodes (classOf labels) asked u) ≤ 4096
@@ -111,10 +112,10 @@ module _ (labels : List Label) (good : GoodLabels labels) (asked : Key) (g : Goo
   pub counter-accepted : treeRefusal labels (writtenTree (classOf labels) asked u) ≡ sound
   unfolding writtenTree
   counter-accepted =
-      tree-written-sound labels (writtenNodes (classOf labels) asked u) (counter-good labels good inProfile asked g u h) all-fit few-nodes some-nodes
+      tree-written-sound labels (inr refl) (writtenNodes (classOf labels) asked u) (counter-good labels good inProfile asked g u h) all-fit few-nodes some-nodes
 
   -- and says these nodes
   pub counter-read : nodesIn labels (writtenTree (classOf labels) asked u) ≡ writtenNodes (classOf labels) asked u
   unfolding writtenTree
   counter-read =
-      nodes-in-written labels (writtenNodes (classOf labels) asked u) (counter-good labels good inProfile asked g u h) all-fit few-nodes
+      nodes-in-written labels (inr refl) (writtenNodes (classOf labels) asked u) (counter-good labels good inProfile asked g u h) all-fit few-nodes some-nodes

@@ -4,7 +4,7 @@ use Prim.Native.Nat.{ℕ, _*_, _≤_, _<_}
 use mathlib.Core.Path.{_≡_, refl, sym, ap, subst}
 use mathlib.Core.List.{List, []}
 use lib.ListN.{length}
-use Rattle.meaning.specs.Limits.{inProfile}
+use Rattle.meaning.specs.Limits.{inProfile, wideKind}
 use Rattle.meaning.specs.Lists.{Each}
 use Rattle.meaning.specs.Paths.{classOf}
 use Rattle.meaning.specs.Trees.{tableOf}
@@ -29,6 +29,8 @@ use Rattle.meaning.specs.Operations.{
 use Rattle.theory_paths.specs.Good.{GoodLabels, GoodKey}
 use Rattle.theory_records.specs.Profiles.{accepted-labels, accepted-keys}
 use Rattle.theory_records.specs.Questions.{question-accepts}
+use Rattle.meaning.specs.Records.{valueBytes}
+use Rattle.theory_records.specs.TreeFiles.{stride}
 use Rattle.theory_records.specs.WrittenInputs.{nodes-size}
 use Rattle.theory_counter.specs.Counterexample.{counter-breaks, counter-keeps, counter-not-implied}
 use Rattle.theory_counter.specs.WrittenFile.{counter-accepted, counter-read}
@@ -47,11 +49,11 @@ module _ (profile question : List ℕ) (soundProfile : profileRefusal profile .n
   pub tree-most : length (writtenNodes (classOf (labelsIn profile)) (questionIn question) u) ≤ 178
   tree-most = written-most (classOf (labelsIn profile)) (labelsIn profile) (questionIn question) goodAsked u (isU .fromQ) (isU .toT)
 
-  -- "bytes used, which is 9 times the nodes"
+  -- "bytes used is 11 times the nodes"
   pub tree-bytes : length (writtenTree (classOf (labelsIn profile)) (questionIn question) u)
-      ≡ 9 * length (writtenNodes (classOf (labelsIn profile)) (questionIn question) u)
-  unfolding writtenTree
-  tree-bytes = nodes-size (labelsIn profile) (writtenNodes (classOf (labelsIn profile)) (questionIn question) u)
+      ≡ 11 * length (writtenNodes (classOf (labelsIn profile)) (questionIn question) u)
+  unfolding writtenTree stride valueBytes
+  tree-bytes = nodes-size (labelsIn profile) wideKind (writtenNodes (classOf (labelsIn profile)) (questionIn question) u)
 
   module _ (low : u < tOf (questionIn question)) where
     -- the file says the written nodes

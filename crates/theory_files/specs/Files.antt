@@ -1,22 +1,23 @@
 -- The table of classes says the class of every label, and the table read off an accepted tree's bytes is the table of its nodes.
-use Prim.Native.Nat.{ℕ, zero, suc, _+_, _*_, _/_, _≤_, _<_}
+use Prim.Native.Nat.{ℕ, zero, suc, _+_, _-_, _*_, _≤_, _<_}
 use mathlib.Core.Path.{_≡_, refl, sym, _∙_, ap, ap₂, subst, fun-ext}
 use mathlib.Core.Bool.{Bool, true, false, cond}
 use mathlib.Core.List.{List, []}
 use native.Mathlib.Omega.{arith}
+use native.Mathlib.Nat.{mul-le-mul-left, div-eq-of-eq-mul-right}
 use native.Mathlib.Decide.{decLt}
 use lib.Dec.{T, eqb}
 use borrow.Author.Tests.{ne-eqb}
-use lib.ListN.{length, getD, List·getD-eq-default}
+use lib.ListN.{length, getD, take, List·getD-eq-default, drop-of-length-le}
 use Rattle.meaning.specs.Limits.{treeNodes, rootLabel}
 use Rattle.meaning.specs.Paths.{Class, element, isElement, Label, classOf, declaredClass}
 use Rattle.meaning.specs.Trees.{Table, Node, noNode, tableOf, IsTree}
-use Rattle.meaning.specs.Records.{word}
-use Rattle.meaning.specs.Refusals.{treeRefusal, nodesIn}
+use Rattle.meaning.specs.Records.{word, number}
+use Rattle.meaning.specs.Refusals.{nodeKindIn, treeRefusal, nodesIn}
 use Rattle.theory_paths.specs.Good.{GoodLabels, undeclared-class, undeclared-high}
-use Rattle.theory_records.specs.TreeFiles.{nodeAt, TreeAccepted, tree-accepts, tree-is-tree}
+use Rattle.theory_records.specs.TreeFiles.{stride, nodeAt, TreeAccepted, tree-accepts, tree-is-tree}
 use Rattle.shapes.specs.Classes.{Tabled, classBy, class-tabled}
-use Rattle.tree_nodes.specs.FileTable.{fileTable, TreeBytes}
+use Rattle.tree_nodes.specs.FileTable.{fileStride, fileTable, stride-least, TreeBytes}
 
 -- a label beyond the table is an element by both
 beyond-table : (classes : List ℕ) (n : ℕ) → length classes ≤ 256 → 256 ≤ n → classBy classes n ≡ element
@@ -40,31 +41,46 @@ module _ (labels : List Label) (bytes : List ℕ) (accepted : treeRefusal labels
   facts : TreeAccepted labels bytes
   facts = tree-accepts labels bytes accepted
 
-  past : (i : ℕ) → length bytes ≤ i → getD bytes i 0 ≡ 0
-  past i h = List·getD-eq-default bytes 0 {n = i} h
+  w : ℕ
+  w = fileStride bytes
 
-  none : (i : ℕ) → length bytes ≤ 9 * i → nodeAt bytes i ≡ noNode
-  unfolding nodeAt word
+  same-stride : w ≡ stride (nodeKindIn bytes)
+  unfolding w fileStride stride
+  same-stride = refl
+
+  count : length bytes ≡ w * length (nodesIn labels bytes)
+  count = facts .size ∙ ap (λ (k : ℕ). k * length (nodesIn labels bytes)) (sym same-stride)
+
+  -- behind the last byte there is none
+  none : (i : ℕ) → length bytes ≤ w * i → nodeAt w bytes i ≡ noNode
+  unfolding nodeAt word number
   none i h =
-      rw (past (9 * i + 4) (omega arith), past (9 * i + 4 + 1) (omega arith), past (9 * i + 6) (omega arith), past (9 * i + 7) (omega arith), past (9 * i + 7 + 1) (omega arith)) refl
+      rw (past (w * i + 4) (omega arith), past (w * i + 4 + 1) (omega arith), past (w * i + 6) (omega arith), drop-of-length-le bytes {i = w * i + 7} (omega arith))
+      (record-same (w - 7))
+    where
+      past : (j : ℕ) → length bytes ≤ j → getD bytes j 0 ≡ 0
+      past j g = List·getD-eq-default bytes 0 {n = j} g
 
-  node-same : (i : ℕ) → nodeAt bytes i ≡ getD (nodesIn labels bytes) i noNode
+      record-same : (k : ℕ) → record { parent = 0 + 256 * 0; label = 0; value = number (take k []) } ≡ noNode
+      record-same zero = refl
+      record-same (suc k) = refl
+
+  beyond : (n i : ℕ) → (i < n → ⊥) → length bytes ≡ w * n → length bytes ≤ w * i
+  beyond n i h e = let m = mul-le-mul-left w (let q : n ≤ i = omega arith in q) in omega arith
+
+  node-same : (i : ℕ) → nodeAt w bytes i ≡ getD (nodesIn labels bytes) i noNode
   node-same i = go (decLt i (length (nodesIn labels bytes)))
     where
-      size : length bytes ≡ 9 * length (nodesIn labels bytes)
-      size = facts .size
-
-      go : Dec (i < length (nodesIn labels bytes)) → nodeAt bytes i ≡ getD (nodesIn labels bytes) i noNode
-      go (yes h) = sym (facts .are i h)
-      go (no h) = none i (omega (arith, size)) ∙ sym (List·getD-eq-default (nodesIn labels bytes) noNode {n = i} (omega arith))
+      go : Dec (i < length (nodesIn labels bytes)) → nodeAt w bytes i ≡ getD (nodesIn labels bytes) i noNode
+      go (yes h) = ap (λ (k : ℕ). nodeAt k bytes i) same-stride ∙ sym (facts .are i h)
+      go (no h) = none i (beyond _ i h count) ∙ sym (List·getD-eq-default (nodesIn labels bytes) noNode {n = i} (omega arith))
 
   pub file-table : fileTable bytes ≡ tableOf (nodesIn labels bytes)
-  unfolding fileTable tableOf nodeAt
+  unfolding fileTable tableOf nodeAt w
   file-table =
-      let size : length bytes ≡ 9 * length (nodesIn labels bytes) = facts .size in
-      let count : length bytes / 9 ≡ length (nodesIn labels bytes) = omega arith in
+      let size = div-eq-of-eq-mul-right (let q : 0 < fileStride bytes = omega (arith, stride-least bytes) in q) count in
       λ i. record {
-        size = count i;
+        size = size i;
         parent = λ n. ap (λ (x : Node). x .parent) (node-same n) i;
         label = λ n. ap (λ (x : Node). x .label) (node-same n) i;
         value = λ n. ap (λ (x : Node). x .value) (node-same n) i;
@@ -72,17 +88,16 @@ module _ (labels : List Label) (bytes : List ℕ) (accepted : treeRefusal labels
 
   -- what the code over a tree asks of its bytes
   pub tree-bytes : GoodLabels labels → (classes : List ℕ) → length classes ≤ 256 → Tabled labels classes → TreeBytes classes bytes
-  unfolding tableOf
+  unfolding tableOf w
   tree-bytes good classes small tabled =
       let same = class-same labels good classes small tabled in
       let t : IsTree (classBy classes) (fileTable bytes) =
       subst (λ κ. IsTree κ (fileTable bytes)) (sym same)
       (subst (λ (x : Table). IsTree (classOf labels) x) (sym file-table) (tree-is-tree labels good bytes accepted)) in
       let e : fileTable bytes .size ≡ length (nodesIn labels bytes) = ap (λ (x : Table). x .size) file-table in
-      let size : length bytes ≡ 9 * length (nodesIn labels bytes) = facts .size in
       let few : length (nodesIn labels bytes) ≤ 4096 = facts .few in
       record {
-        whole = omega arith;
+        whole = count ∙ ap (λ (k : ℕ). fileStride bytes * k) (sym e);
         some = t .some;
         few = omega arith;
         root = t .root;

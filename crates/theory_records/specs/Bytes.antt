@@ -1,12 +1,12 @@
 -- Bytes, and numbers of two bytes: document 01, "two bytes, little-endian".
-use Prim.Native.Nat.{ℕ, zero, suc, _+_, _*_, _/_, _%_, _≤_, _<_}
+use Prim.Native.Nat.{ℕ, zero, suc, _+_, _*_, _/_, _%_, _^_, _≤_, _<_}
 use mathlib.Core.Path.{_≡_, refl, sym, subst, ap, _∙_}
 use mathlib.Core.List.{List, [], _∷_, _++_}
 use native.Mathlib.Omega.{arith}
-use native.Mathlib.Nat.{add-mul-mod-self-left, add-mul-div-left, mod-eq-of-lt, div-eq-of-lt}
+use native.Mathlib.Nat.{add-mul-mod-self-left, add-mul-div-left, mod-eq-of-lt, div-eq-of-lt, pow-zero, pow-suc}
 use lib.ListN.{length, getD, take, drop}
 use Rattle.meaning.specs.Lists.{Each, end, also}
-use Rattle.meaning.specs.Records.{word, wordBytes}
+use Rattle.meaning.specs.Records.{word, wordBytes, number, numberBytes}
 
 -- Each is a byte: what a slice of u8 holds
 abbrev pub IsByte : ℕ → Type 0
@@ -57,3 +57,24 @@ word-below l i bs =
     let a : getD l i 0 < 256 = bytes-at bs i in
     let b : getD l (i + 1) 0 < 256 = bytes-at bs (i + 1) in
     omega arith
+
+-- Numbers of any width, once for two bytes and for four
+pub number-length : (width n : ℕ) → length (numberBytes width n) ≡ width
+unfolding numberBytes
+number-length zero n = refl
+number-length (suc width) n = ap suc (number-length width (n / 256))
+
+-- what is written is read back
+pub number-bytes : (width n : ℕ) → n < 256 ^ width → number (numberBytes width n) ≡ n
+unfolding number numberBytes
+number-bytes zero n h = let p = pow-zero 256 in omega arith
+number-bytes (suc width) n h = let p = pow-suc 256 width in let e = number-bytes width (n / 256) (omega arith) in omega arith
+
+-- and what is read is written back
+pub bytes-number : {l : List ℕ} → Bytes l → numberBytes (length l) (number l) ≡ l
+unfolding number numberBytes
+bytes-number end = refl
+bytes-number (also {x = b} {xs = l} h bs) =
+    let low : (b + 256 * number l) % 256 ≡ b = omega arith in
+    let high : (b + 256 * number l) / 256 ≡ number l = omega arith in
+    rw (low, high, bytes-number bs)

@@ -1,21 +1,22 @@
 -- Each kind of record: an accepted record's bytes are its encoding, and an encoding is read back.
-use Prim.Native.Nat.{ℕ, zero, suc, _+_, _*_, _/_, _%_, _-_, _≤_, _<_}
+use Prim.Native.Nat.{ℕ, zero, suc, _+_, _*_, _/_, _%_, _-_, _^_, _≤_, _<_}
 use mathlib.Core.Path.{_≡_, refl, sym, subst, ap, _∙_}
+use mathlib.Core.Logic.{_⊎_, inl, inr}
 use mathlib.Core.Bool.{Bool, true, false, cond, _&&_}
 use mathlib.Core.List.{List, [], _∷_, _++_, map, flatten}
 use native.Mathlib.Omega.{arith}
 use borrow.Author.Tests.{leb-true, le-leb, eqb-true, eq-eqb}
 use lib.Dec.{leb, eqb}
-use lib.ListN.{length, getD, take, drop, length-append, drop-of-length-le}
+use lib.ListN.{length, getD, take, drop, length-append, length-drop}
 use Rattle.meaning.specs.Lists.{Each, end, also}
 use Rattle.meaning.specs.Paths.{Label}
 use Rattle.meaning.specs.Trees.{Node}
 use Rattle.meaning.specs.Keys.{Key}
 use Rattle.meaning.specs.Rules.{Line}
-use Rattle.meaning.specs.Records.{word, wordBytes, recordLength, recordKind, recordBody, recordBytes, readLabel, labelBytes, keyIn, readKey, keyBody, keyBytes, readNode, nodeBytes, readLine, lineBytes, isSome, bodyEnds}
+use Rattle.meaning.specs.Records.{word, wordBytes, recordLength, recordKind, recordBody, recordBytes, readLabel, labelBytes, keyIn, readKey, keyBody, keyBytes, readNode, nodeBytes, valueBytes, number, numberBytes, readLine, lineBytes, isSome, bodyEnds}
 use Rattle.meaning.specs.Refusals.{whole}
 use Rattle.theory_records.specs.Tests.{both, and-true}
-use Rattle.theory_records.specs.Bytes.{Bytes, bytes-drop, bytes-take, wordBytes-word, word-wordBytes}
+use Rattle.theory_records.specs.Bytes.{Bytes, bytes-drop, bytes-take, wordBytes-word, word-wordBytes, number-bytes, bytes-number}
 use Rattle.theory_records.specs.Heads.{Whole, record-written, written-length, written-kind, written-body, written-rest, bytes-length, body-length}
 use Rattle.theory_records.specs.KeyBodies.{key-in-written, key-in-read, key-is-read}
 
@@ -28,9 +29,35 @@ pub ends-key : (l : List ℕ) → Whole l → recordKind l ≡ 2 → isSome (rea
 unfolding bodyEnds
 ends-key l w k = subst (λ (kind : ℕ). bodyEnds kind (recordBody l) ≡ true) k (w .ends)
 
-pub ends-node : (l : List ℕ) → Whole l → recordKind l ≡ 3 → length (recordBody l) ≡ 5
+-- a node's kind: 3, or 5
+abbrev pub IsNodeKind : ℕ → Type 0
+IsNodeKind kind = (kind ≡ 3) ⊎ (kind ≡ 5)
+
+-- and both ask the same of the body, over the value's width
+node-asks : {kind : ℕ} → IsNodeKind kind → (body : List ℕ) → bodyEnds kind body ≡ eqb (length body) (3 + valueBytes kind)
 unfolding bodyEnds
-ends-node l w k = eqb-true _ _ (subst (λ (kind : ℕ). bodyEnds kind (recordBody l) ≡ true) k (w .ends))
+node-asks (inl e) body = rw e
+node-asks (inr e) body = rw e
+
+pub ends-node : {kind : ℕ} → IsNodeKind kind → (l : List ℕ) → Whole l → recordKind l ≡ kind → length (recordBody l) ≡ 3 + valueBytes kind
+ends-node isNode l w k =
+    eqb-true _ _ (sym (node-asks isNode (recordBody l)) ∙ subst (λ (kind : ℕ). bodyEnds kind (recordBody l) ≡ true) k (w .ends))
+
+-- a body of so many bytes is a node's
+pub node-ends : {kind : ℕ} → IsNodeKind kind → (body : List ℕ) → length body ≡ 3 + valueBytes kind → bodyEnds kind body ≡ true
+node-ends isNode body h = node-asks isNode body ∙ eq-eqb _ _ h
+
+pub kind-small : {kind : ℕ} → IsNodeKind kind → kind < 65536
+kind-small (inl e) = omega arith
+kind-small (inr e) = omega arith
+
+pub value-small : (kind : ℕ) → valueBytes kind ≤ 4
+unfolding valueBytes
+value-small kind = go (eqb kind 5)
+  where
+    go : (b : Bool) → cond b 4 2 ≤ 4
+    go true = omega arith
+    go false = omega arith
 
 pub ends-line : (l : List ℕ) → Whole l → recordKind l ≡ 4 → (5 ≤ length (recordBody l)) × (isSome (readKey (drop 5 (recordBody l))) ≡ true)
 unfolding bodyEnds
@@ -73,17 +100,23 @@ front-five (a ∷ b ∷ c ∷ []) h = absurd (omega arith)
 front-five (a ∷ b ∷ c ∷ d ∷ []) h = absurd (omega arith)
 front-five (a ∷ b ∷ c ∷ d ∷ e ∷ l) h = refl
 
--- Kind 3
-node-body : (body : List ℕ) → Bytes body → length body ≡ 5
-    → wordBytes (word body 0) ++ (getD body 2 0 ∷ wordBytes (word body 3)) ≡ body
-node-body body bs h =
-    let none : drop 5 body ≡ [] = drop-of-length-le body {i = 5} (omega arith) in
-    rw (wordBytes-word body 0 bs, wordBytes-word body 3 bs) (rw none at (front-five body (omega arith)))
+-- Kinds 3 and 5
+front-three : (l : List ℕ) → 3 ≤ length l → getD l 0 0 ∷ getD l 1 0 ∷ getD l 2 0 ∷ drop 3 l ≡ l
+front-three [] h = absurd (omega arith)
+front-three (a ∷ []) h = absurd (omega arith)
+front-three (a ∷ b ∷ []) h = absurd (omega arith)
+front-three (a ∷ b ∷ c ∷ l) h = refl
 
-pub node-written : (l : List ℕ) → Bytes l → Whole l → recordKind l ≡ 3
-    → nodeBytes (readNode (recordBody l)) ++ drop (recordLength l) l ≡ l
+node-body : (body : List ℕ) (width : ℕ) → Bytes body → length body ≡ 3 + width
+    → wordBytes (word body 0) ++ (getD body 2 0 ∷ numberBytes width (number (drop 3 body))) ≡ body
+node-body body width bs h =
+    let long : length (drop 3 body) ≡ width = omega (arith, length-drop 3 body) in
+    rw (wordBytes-word body 0 bs, ← long, bytes-number (bytes-drop 3 bs)) (front-three body (omega arith))
+
+pub node-written : {kind : ℕ} → IsNodeKind kind → (l : List ℕ) → Bytes l → Whole l → recordKind l ≡ kind
+    → nodeBytes kind (readNode (recordBody l)) ++ drop (recordLength l) l ≡ l
 unfolding nodeBytes readNode
-node-written l bs w k = record-is l bs w 3 k _ (node-body (recordBody l) (bytes-body l bs) (ends-node l w k))
+node-written {kind} n l bs w k = record-is l bs w kind k _ (node-body (recordBody l) (valueBytes kind) (bytes-body l bs) (ends-node n l w k))
 
 -- Kind 4
 line-body : (body : List ℕ) → Bytes body → 5 ≤ length body
@@ -112,12 +145,12 @@ written-whole kind body rest fits small =
     let three : leb (recordLength all) (length all) ≡ true = le-leb (recordLength all) (length all) (omega arith) in
     rw (one, two, three, written-kind kind body rest small, written-body kind body rest fits)
 
-pub node-read : (n : Node) → n .parent < 65536 → n .value < 65536
-    → readNode (wordBytes (n .parent) ++ (n .label ∷ wordBytes (n .value))) ≡ n
+pub node-read : (width : ℕ) (n : Node) → n .parent < 65536 → n .value < 256 ^ width
+    → readNode (wordBytes (n .parent) ++ (n .label ∷ numberBytes width (n .value))) ≡ n
 unfolding readNode word wordBytes
-node-read n p v =
+node-read width n p v =
     let parent : n .parent % 256 + 256 * (n .parent / 256 % 256) ≡ n .parent = word-wordBytes (n .parent) [] p in
-    let value : n .value % 256 + 256 * (n .value / 256 % 256) ≡ n .value = word-wordBytes (n .value) [] v in
+    let value : number (numberBytes width (n .value)) ≡ n .value = number-bytes width (n .value) v in
     λ i. record { parent = parent i; label = n .label; value = value i }
 
 pub line-read : (x : Line) → x .first < 65536 → x .second < 65536

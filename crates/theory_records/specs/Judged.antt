@@ -118,25 +118,26 @@ question-accepted labels read l e =
     }
 
 -- A node record of a tree
-pub record NodeAccepted (labels : List Label) (nodes : List Node) (l : List ℕ) : Type 0 where
+pub record NodeAccepted (kind : ℕ) (labels : List Label) (nodes : List Node) (l : List ℕ) : Type 0 where
   pub isWhole : Whole l
-  pub kind : recordKind l ≡ 3
+  pub isKind : recordKind l ≡ kind
   pub room : length nodes < 4096
   pub good : cond (isEmpty nodes) (goodRoot (readNode (recordBody l))) (goodBelow labels nodes (readNode (recordBody l))) ≡ true
 
-pub node-accepted : (labels : List Label) (nodes : List Node) (l : List ℕ) → firstOf (treeTests labels nodes l) ≡ 0 → NodeAccepted labels nodes l
+pub node-accepted : (kind : ℕ) (labels : List Label) (nodes : List Node) (l : List ℕ) → firstOf (treeTests kind labels nodes l) ≡ 0
+    → NodeAccepted kind labels nodes l
 unfolding treeTests
-node-accepted labels nodes l e =
+node-accepted kind labels nodes l e =
     let seven = first-none _ _ _ e in
     let one = first-none _ _ _ (seven .1) in
     let two = first-none _ _ _ (one .1) in
     let eight = first-none _ _ _ (two .1) in
     let w = whole-says l (not-false _ (one .0)) in
-    let three : recordKind l ≡ 3 = eqb-true _ _ (not-false _ (two .0)) in
+    let same : recordKind l ≡ kind = eqb-true _ _ (not-false _ (two .0)) in
     record {
       isWhole = w;
-      kind = three;
-      room = room-says 3 4096 (length nodes) l (w .head) three (seven .0);
+      isKind = same;
+      room = room-says kind 4096 (length nodes) l (w .head) same (seven .0);
       good = not-false _ (eight .0);
     }
 
@@ -178,11 +179,11 @@ pub question-passes : (labels : List Label) (l : List ℕ) → whole l ≡ true 
 unfolding questionTests firstOf isEmpty
 question-passes labels l w k good = rw (w, k) good
 
-pub node-passes : (labels : List Label) (nodes : List Node) (l : List ℕ) → length nodes < 4096 → whole l ≡ true → recordKind l ≡ 3
+pub node-passes : (kind : ℕ) (labels : List Label) (nodes : List Node) (l : List ℕ) → length nodes < 4096 → whole l ≡ true → recordKind l ≡ kind
     → cond (isEmpty nodes) (goodRoot (readNode (recordBody l))) (goodBelow labels nodes (readNode (recordBody l))) ≡ true
-    → firstOf (treeTests labels nodes l) ≡ 0
+    → firstOf (treeTests kind labels nodes l) ≡ 0
 unfolding treeTests firstOf
-node-passes labels nodes l room w k good = rw (room-left 3 4096 (length nodes) l room, w, k, good)
+node-passes kind labels nodes l room w k good = rw (room-left kind 4096 (length nodes) l room, w, eq-eqb (recordKind l) kind k, good)
 
 pub line-passes : (labels : List Label) (lines : List Line) (l : List ℕ) → length lines < 256 → whole l ≡ true → recordKind l ≡ 4
     → firstOf (keyTests labels inProof (readLine (recordBody l) .key)) ≡ 0 → firstOf (lineTests labels lines l) ≡ 0

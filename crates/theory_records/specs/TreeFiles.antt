@@ -1,4 +1,4 @@
--- An accepted tree file: nine bytes to a node, what each node says, and that it is a tree.
+-- An accepted tree file: as many bytes to a node as its kind says, what each node says, and that it is a tree.
 use Prim.Native.Nat.{ℕ, zero, suc, _+_, _*_, _-_, _≤_, _<_}
 use mathlib.Core.Path.{_≡_, refl, sym, subst, ap, _∙_}
 use mathlib.Core.Logic.{_⊎_, inl, inr, ⊎-elim, _≢_}
@@ -13,45 +13,70 @@ use lib.Seq.{getD-drop, getD-take, drop-drop, getD-append-seam}
 use Rattle.meaning.specs.Lists.{Each, end, also, isEmpty}
 use Rattle.meaning.specs.Paths.{Class, Label, element, attribute, text, isElement, classOf, isLabel, declared}
 use Rattle.meaning.specs.Trees.{Table, Node, noNode, tableOf, Placed, IsTree}
-use Rattle.meaning.specs.Records.{word, recordLength, recordKind, recordBody, readNode, nodeBytes}
-use Rattle.meaning.specs.Refusals.{Refusal, sound, firstOf, walk, goodRoot, goodBelow, treeTests, treeWalked, nodesIn, treeRefusal}
+use Rattle.meaning.specs.Records.{word, number, valueBytes, recordLength, recordKind, recordBody, readNode, nodeBytes}
+use Rattle.meaning.specs.Refusals.{Refusal, sound, firstOf, walk, goodRoot, goodBelow, nodeKindIn, treeTests, treeWalked, nodesIn, treeRefusal}
 use Rattle.theory_paths.specs.Bools.{of-true}
 use Rattle.theory_paths.specs.Good.{GoodLabels, declared-between}
 use Rattle.theory_records.specs.Tests.{both, either, never}
 use Rattle.theory_records.specs.Walks.{Stopped, walk-keeps}
 use Rattle.theory_records.specs.Bytes.{Bytes, bytes-drop}
 use Rattle.theory_records.specs.Heads.{Whole, body-length}
-use Rattle.theory_records.specs.Encodings.{ends-node, node-written}
+use Rattle.theory_records.specs.Encodings.{IsNodeKind, ends-node, node-written}
 use Rattle.theory_records.specs.Judged.{NodeAccepted, node-accepted}
 use Rattle.theory_records.specs.Profiles.{one-more, length-more, refusal-none, within-size}
 
--- node i of the bytes
-unfoldable pub nodeAt : List ℕ → ℕ → Node
-nodeAt bytes i = record { parent = word bytes (9 * i + 4); label = getD bytes (9 * i + 6) 0; value = word bytes (9 * i + 7) }
+drop-take : {A : Type 0} (m n : ℕ) (l : List A) → drop m (take n l) ≡ take (n - m) (drop m l)
+drop-take zero n l = ap (λ (k : ℕ). take k l) (let q : n ≡ n - 0 = omega arith in q)
+drop-take (suc m) zero l = ap (λ (k : ℕ). take k (drop (suc m) l)) (let q : 0 ≡ 0 - suc m = omega arith in q)
+drop-take {A} (suc m) (suc n) [] = none (suc n - suc m)
+  where
+    none : (k : ℕ) → _≡_ {A = List A} [] (take k [])
+    none zero = refl
+    none (suc k) = refl
+drop-take (suc m) (suc n) (x ∷ l) = drop-take m n l ∙ ap (λ (k : ℕ). take k (drop m l)) (let q : n - m ≡ suc n - suc m = omega arith in q)
+
+-- how many bytes a node record of the kind has: 9, or 11
+unfoldable pub stride : ℕ → ℕ
+stride kind = 7 + valueBytes kind
+
+-- node i of the bytes, of so many bytes each
+unfoldable pub nodeAt : ℕ → List ℕ → ℕ → Node
+nodeAt w bytes i =
+    record { parent = word bytes (w * i + 4); label = getD bytes (w * i + 6) 0; value = number (take (w - 7) (drop (w * i + 7) bytes)) }
 
 pub body-at : (l : List ℕ) (i : ℕ) → i < recordLength l - 4 → getD (recordBody l) i 0 ≡ getD l (4 + i) 0
 unfolding recordBody
 body-at l i h = getD-take (recordLength l - 4) (drop 4 l) i 0 h ∙ getD-drop 4 l i 0
 
--- "Every record: length of the whole record": a node's is nine
-pub node-length : (l : List ℕ) → Whole l → recordKind l ≡ 3 → recordLength l ≡ 9
-node-length l w k = omega (arith, w .long, body-length l (w .within), ends-node l w k)
+-- "Every record: length of the whole record": a node's is its kind's
+pub node-length : {kind : ℕ} → IsNodeKind kind → (l : List ℕ) → Whole l → recordKind l ≡ kind → recordLength l ≡ stride kind
+unfolding stride
+node-length n l w k = omega (arith, w .long, body-length l (w .within), ends-node n l w k)
 
-read-node-at : (bytes : List ℕ) (i : ℕ) (l : List ℕ) → l ≡ drop (9 * i) bytes → recordLength l ≡ 9 → readNode (recordBody l) ≡ nodeAt bytes i
+read-node-at : (w : ℕ) → 7 ≤ w → (bytes : List ℕ) (i : ℕ) (l : List ℕ) → l ≡ drop (w * i) bytes → recordLength l ≡ w
+    → readNode (recordBody l) ≡ nodeAt w bytes i
 unfolding readNode nodeAt word
-read-node-at bytes i l e nine =
+read-node-at w seven bytes i l e long =
     λ k.
     record {
-      parent = byte 0 (9 * i + 4) (omega arith) (omega arith) k + 256 * byte 1 (9 * i + 4 + 1) (omega arith) (omega arith) k;
-      label = byte 2 (9 * i + 6) (omega arith) (omega arith) k;
-      value = byte 3 (9 * i + 7) (omega arith) (omega arith) k + 256 * byte 4 (9 * i + 7 + 1) (omega arith) (omega arith) k;
+      parent = byte 0 (w * i + 4) (omega arith) (omega arith) k + 256 * byte 1 (w * i + 4 + 1) (omega arith) (omega arith) k;
+      label = byte 2 (w * i + 6) (omega arith) (omega arith) k;
+      value = number (rest k);
     }
   where
-    byte : (j m : ℕ) → j < 5 → m ≡ 9 * i + (4 + j) → getD (recordBody l) j 0 ≡ getD bytes m 0
+    byte : (j m : ℕ) → j < 3 → m ≡ w * i + (4 + j) → getD (recordBody l) j 0 ≡ getD bytes m 0
     byte j m h q =
         let inside : j < recordLength l - 4 = omega arith in
         body-at l j inside
-        ∙ (ap (λ (x : List ℕ). getD x (4 + j) 0) e ∙ (getD-drop (9 * i) bytes (4 + j) 0 ∙ ap (λ (x : ℕ). getD bytes x 0) (sym q)))
+        ∙ (ap (λ (x : List ℕ). getD x (4 + j) 0) e ∙ (getD-drop (w * i) bytes (4 + j) 0 ∙ ap (λ (x : ℕ). getD bytes x 0) (sym q)))
+
+    rest : drop 3 (recordBody l) ≡ take (w - 7) (drop (w * i + 7) bytes)
+    rest =
+        unfold recordBody in
+        ap (λ (n : ℕ). drop 3 (take (n - 4) (drop 4 l))) long
+        ∙ (drop-take 3 (w - 4) (drop 4 l)
+        ∙ (ap (λ (n : ℕ). take n (drop 3 (drop 4 l))) (let q : w - 4 - 3 ≡ w - 7 = omega arith in q)
+        ∙ ap (take (w - 7)) (drop-drop 3 4 l ∙ (ap (drop 7) e ∙ drop-drop 7 (w * i) bytes))))
 
 -- What acceptance says of a node below the root: "A node's parent has a smaller number", "parent is attribute or text", "An element's value is 0"
 pub record NodeBelow (labels : List Label) (nodes : List Node) (i : ℕ) : Type 0 where
@@ -109,74 +134,95 @@ good-more labels (y ∷ nodes) x g e =
     }
 
 -- What holds of the nodes read so far
-pub record TreeAt (labels : List Label) (bytes : List ℕ) (n : ℕ) (nodes : List Node) (rest : List ℕ) : Type 0 where
+pub record TreeAt (kind : ℕ) (labels : List Label) (bytes : List ℕ) (n : ℕ) (nodes : List Node) (rest : List ℕ) : Type 0 where
   pub counted : n ≡ length nodes
-  pub left : rest ≡ drop (9 * length nodes) bytes
-  pub within : 9 * length nodes ≤ length bytes
+  pub left : rest ≡ drop (stride kind * length nodes) bytes
+  pub within : stride kind * length nodes ≤ length bytes
   pub few : length nodes ≤ 4096
-  pub are : (i : ℕ) → i < length nodes → getD nodes i noNode ≡ nodeAt bytes i
+  pub are : (i : ℕ) → i < length nodes → getD nodes i noNode ≡ nodeAt (stride kind) bytes i
   pub good : NodesGood labels nodes
 
-nine-more : (k m : ℕ) → m ≡ suc k → 9 * k + 9 ≡ 9 * m
-nine-more k m e = omega arith
+stride-more : (w k m : ℕ) → m ≡ suc k → w * k + w ≡ w * m
+stride-more w k m e = ap (λ (n : ℕ). w * k + n) (omega arith) ∙ (let q : w * k + w ≡ w * suc k = omega arith in q) ∙ ap (λ (n : ℕ). w * n) (sym e)
+
+pub stride-least : (kind : ℕ) → 7 ≤ stride kind
+unfolding stride
+stride-least kind = omega arith
 
 at-most : (i m k : ℕ) → m ≡ suc k → i < m → i ≤ k
 at-most i m k e h = omega arith
 
-pub tree-kept : (labels : List Label) (bytes : List ℕ) (n : ℕ) (nodes : List Node) (l : List ℕ) → TreeAt labels bytes n nodes l → 0 < length l
-    → firstOf (treeTests labels nodes l) ≡ 0
-    → TreeAt labels bytes (suc n) (nodes ++ (readNode (recordBody l) ∷ [])) (drop (recordLength l) l)
-tree-kept labels bytes n nodes l g h e =
-    let a = node-accepted labels nodes l e in
-    let nine : recordLength l ≡ 9 = node-length l (a .isWhole) (a .kind) in
+pub tree-kept : {kind : ℕ} → IsNodeKind kind → (labels : List Label) (bytes : List ℕ) (n : ℕ) (nodes : List Node) (l : List ℕ)
+    → TreeAt kind labels bytes n nodes l → 0 < length l → firstOf (treeTests kind labels nodes l) ≡ 0
+    → TreeAt kind labels bytes (suc n) (nodes ++ (readNode (recordBody l) ∷ [])) (drop (recordLength l) l)
+tree-kept {kind} isNode labels bytes n nodes l g h e =
+    let w : ℕ = stride kind in
+    let a = node-accepted kind labels nodes l e in
+    let long : recordLength l ≡ w = node-length isNode l (a .isWhole) (a .isKind) in
     let x : Node = readNode (recordBody l) in
     let more : length (nodes ++ (x ∷ [])) ≡ suc (length nodes) = length-more nodes x in
-    let size : length l ≡ length bytes - 9 * length nodes = ap length (g .left) ∙ length-drop (9 * length nodes) bytes in
+    let on : w * length nodes + w ≡ w * length (nodes ++ (x ∷ [])) = stride-more w (length nodes) _ more in
+    let size : length l ≡ length bytes - w * length nodes = ap length (g .left) ∙ length-drop (w * length nodes) bytes in
     record {
       counted = omega (arith, g .counted);
       left =
-          ap (λ (k : ℕ). drop k l) nine
-          ∙ (ap (λ (r : List ℕ). drop 9 r) (g .left)
-          ∙ (drop-drop 9 (9 * length nodes) bytes ∙ ap (λ (k : ℕ). drop k bytes) (nine-more (length nodes) _ more)));
-      within = omega (arith, a .isWhole .within, g .within);
+          ap (λ (k : ℕ). drop k l) long
+          ∙ (ap (λ (r : List ℕ). drop w r) (g .left)
+          ∙ (drop-drop w (w * length nodes) bytes ∙ ap (λ (k : ℕ). drop k bytes) on));
+      within = omega (arith, a .isWhole .within, g .within, on);
       few = omega (arith, a .room);
       are =
           λ i k.
           ⊎-elim
           (λ (q : i ≡ length nodes).
           ap (λ (j : ℕ). getD (nodes ++ (x ∷ [])) j noNode) q
-          ∙ (getD-append-seam nodes x [] noNode ∙ (read-node-at bytes (length nodes) l (g .left) nine ∙ ap (nodeAt bytes) (sym q))))
+          ∙ (getD-append-seam nodes x [] noNode
+          ∙ (read-node-at w (stride-least kind) bytes (length nodes) l (g .left) long ∙ ap (nodeAt w bytes) (sym q))))
           (λ (q : i < length nodes). List·getD-append nodes (x ∷ []) noNode i q ∙ g .are i q)
           (eq-or-lt-of-le (at-most i _ _ more k));
       good = good-more labels nodes x (g .good) (a .good);
     }
 
-pub tree-long : (labels : List Label) (nodes : List Node) (l : List ℕ) → 0 < length l → firstOf (treeTests labels nodes l) ≡ 0
+pub tree-long : (kind : ℕ) (labels : List Label) (nodes : List Node) (l : List ℕ) → 0 < length l → firstOf (treeTests kind labels nodes l) ≡ 0
     → 1 ≤ recordLength l
-tree-long labels nodes l h e = omega (arith, node-accepted labels nodes l e .isWhole .long)
+tree-long kind labels nodes l h e = omega (arith, node-accepted kind labels nodes l e .isWhole .long)
 
-pub tree-none : (labels : List Label) (bytes : List ℕ) → TreeAt labels bytes 0 [] bytes
-tree-none labels bytes =
+nothing : (w : ℕ) → w * 0 ≡ 0
+nothing w = omega arith
+
+pub tree-none : (kind : ℕ) (labels : List Label) (bytes : List ℕ) → TreeAt kind labels bytes 0 [] bytes
+tree-none kind labels bytes =
     record {
       counted = refl;
-      left = refl;
+      left = ap (λ (k : ℕ). drop k bytes) (sym (nothing (stride kind)));
       within = omega arith;
       few = omega arith;
       are = λ i h. absurd (omega arith);
       good = record { root = λ h. absurd (omega arith); below = λ i h k. absurd (omega arith) };
     }
 
-pub tree-stop : (labels : List Label) (bytes : List ℕ) → Stopped (treeTests labels) (TreeAt labels bytes) (treeWalked labels bytes)
+-- the kind of a file's nodes is one
+pub kind-in : (bytes : List ℕ) → IsNodeKind (nodeKindIn bytes)
+unfolding nodeKindIn
+kind-in bytes = go (leb 4 (length bytes) && eqb (recordKind bytes) 5)
+  where
+    go : (b : Bool) → IsNodeKind (cond b 5 3)
+    go true = inr refl
+    go false = inl refl
+
+pub tree-stop : (labels : List Label) (bytes : List ℕ)
+    → Stopped (treeTests (nodeKindIn bytes) labels) (TreeAt (nodeKindIn bytes) labels bytes) (treeWalked labels bytes)
 unfolding treeWalked
 tree-stop labels bytes =
-    walk-keeps (treeTests labels) _ (TreeAt labels bytes) (tree-long labels) (tree-kept labels bytes) 0 [] bytes (tree-none labels bytes)
+    walk-keeps (treeTests (nodeKindIn bytes) labels) _ (TreeAt (nodeKindIn bytes) labels bytes) (tree-long (nodeKindIn bytes) labels)
+    (tree-kept (kind-in bytes) labels bytes) 0 [] bytes (tree-none (nodeKindIn bytes) labels bytes)
 
 -- What acceptance of a tree says
 pub record TreeAccepted (labels : List Label) (bytes : List ℕ) : Type 0 where
-  pub size : length bytes ≡ 9 * length (nodesIn labels bytes)
+  pub size : length bytes ≡ stride (nodeKindIn bytes) * length (nodesIn labels bytes)
   pub some : 0 < length (nodesIn labels bytes)
   pub few : length (nodesIn labels bytes) ≤ 4096
-  pub are : (i : ℕ) → i < length (nodesIn labels bytes) → getD (nodesIn labels bytes) i noNode ≡ nodeAt bytes i
+  pub are : (i : ℕ) → i < length (nodesIn labels bytes) → getD (nodesIn labels bytes) i noNode ≡ nodeAt (stride (nodeKindIn bytes)) bytes i
   pub good : NodesGood labels (nodesIn labels bytes)
 
 pub tree-accepts : (labels : List Label) (bytes : List ℕ) → treeRefusal labels bytes .number ≡ 0 → TreeAccepted labels bytes
@@ -186,16 +232,20 @@ tree-accepts labels bytes e =
     let two = refusal-none _ _ (one .1) in
     let three = refusal-none _ _ (two .1) in
     let w = tree-stop labels bytes in
-    let all : [] ≡ drop (9 * length (nodesIn labels bytes)) bytes = sym (w .sound (two .0)) ∙ w .held .left in
-    let none : 0 ≡ length bytes - 9 * length (nodesIn labels bytes) =
-    ap length all ∙ length-drop (9 * length (nodesIn labels bytes)) bytes in
-    let size : length bytes ≡ 9 * length (nodesIn labels bytes) = omega (arith, w .held .within) in
+    let m : ℕ = stride (nodeKindIn bytes) * length (nodesIn labels bytes) in
+    let all : [] ≡ drop m bytes = sym (w .sound (two .0)) ∙ w .held .left in
+    let none : 0 ≡ length bytes - m = ap length all ∙ length-drop m bytes in
+    let size : length bytes ≡ m = omega (arith, w .held .within) in
     let any : 0 < length bytes = not-empty bytes (three .0) in
-    record { size = size; some = omega arith; few = w .held .few; are = w .held .are; good = w .held .good }
+    record { size = size; some = some-of (stride (nodeKindIn bytes)) (length (nodesIn labels bytes)) (omega arith); few = w .held .few; are = w .held .are; good = w .held .good }
   where
     not-empty : (l : List ℕ) → cond (isEmpty l) (record { number = 8; input = 3; place = 0 }) sound .number ≡ 0 → 0 < length l
     not-empty [] h = absurd (omega arith)
     not-empty (b ∷ l) h = omega arith
+
+    some-of : (w n : ℕ) → 0 < w * n → 0 < n
+    some-of w zero h = absurd (omega arith)
+    some-of w (suc n) h = omega arith
 
 -- A label of a file is not the root's, where the declared labels are "2 to 200"
 pub label-not-root : (labels : List Label) → GoodLabels labels → (n : ℕ) → isLabel labels n ≡ true → n ≢ 203
@@ -246,35 +296,36 @@ tree-is-tree labels between bytes e =
     nodes-tree labels between (nodesIn labels bytes) (a .some) (a .good)
 
 -- the bytes of a tree are the encodings of its nodes
-pub record TreeWritten (bytes : List ℕ) (n : ℕ) (nodes : List Node) (rest : List ℕ) : Type 0 where
+pub record TreeWritten (kind : ℕ) (bytes : List ℕ) (n : ℕ) (nodes : List Node) (rest : List ℕ) : Type 0 where
   pub small : Bytes rest
-  pub are : flatten (map nodeBytes nodes) ++ rest ≡ bytes
+  pub are : flatten (map (nodeBytes kind) nodes) ++ rest ≡ bytes
 
-tree-written-kept : (labels : List Label) (bytes : List ℕ) (n : ℕ) (nodes : List Node) (l : List ℕ) → TreeWritten bytes n nodes l → 0 < length l
-    → firstOf (treeTests labels nodes l) ≡ 0
-    → TreeWritten bytes (suc n) (nodes ++ (readNode (recordBody l) ∷ [])) (drop (recordLength l) l)
-tree-written-kept labels bytes n nodes l g h e =
-    let a = node-accepted labels nodes l e in
+tree-written-kept : {kind : ℕ} → IsNodeKind kind → (labels : List Label) (bytes : List ℕ) (n : ℕ) (nodes : List Node) (l : List ℕ)
+    → TreeWritten kind bytes n nodes l → 0 < length l → firstOf (treeTests kind labels nodes l) ≡ 0
+    → TreeWritten kind bytes (suc n) (nodes ++ (readNode (recordBody l) ∷ [])) (drop (recordLength l) l)
+tree-written-kept {kind} isNode labels bytes n nodes l g h e =
+    let a = node-accepted kind labels nodes l e in
     record {
       small = bytes-drop (recordLength l) (g .small);
       are =
-          one-more nodeBytes nodes (readNode (recordBody l)) (drop (recordLength l) l) l bytes
-          (node-written l (g .small) (a .isWhole) (a .kind)) (g .are);
+          one-more (nodeBytes kind) nodes (readNode (recordBody l)) (drop (recordLength l) l) l bytes
+          (node-written isNode l (g .small) (a .isWhole) (a .isKind)) (g .are);
     }
 
 pub tree-written : (labels : List Label) (bytes : List ℕ) → Bytes bytes → treeRefusal labels bytes .number ≡ 0
-    → flatten (map nodeBytes (nodesIn labels bytes)) ≡ bytes
+    → flatten (map (nodeBytes (nodeKindIn bytes)) (nodesIn labels bytes)) ≡ bytes
 unfolding treeRefusal nodesIn treeWalked
 tree-written labels bytes small e =
     let one = refusal-none _ _ e in
     let two = refusal-none _ _ (one .1) in
     let w =
-    walk-keeps (treeTests labels) (λ (nodes : List Node) (l : List ℕ). nodes ++ (readNode (recordBody l) ∷ [])) (TreeWritten bytes)
-    (tree-long labels)
-    (tree-written-kept labels bytes)
+    walk-keeps (treeTests (nodeKindIn bytes) labels) (λ (nodes : List Node) (l : List ℕ). nodes ++ (readNode (recordBody l) ∷ []))
+    (TreeWritten (nodeKindIn bytes) bytes)
+    (tree-long (nodeKindIn bytes) labels)
+    (tree-written-kept (kind-in bytes) labels bytes)
     0
     []
     bytes
     (record { small = small; are = unfold flatten in refl }) in
-    sym (append-nil (flatten (map nodeBytes (nodesIn labels bytes))))
-    ∙ subst (λ (rest : List ℕ). flatten (map nodeBytes (nodesIn labels bytes)) ++ rest ≡ bytes) (w .sound (two .0)) (w .held .are)
+    sym (append-nil (flatten (map (nodeBytes (nodeKindIn bytes)) (nodesIn labels bytes))))
+    ∙ subst (λ (rest : List ℕ). flatten (map (nodeBytes (nodeKindIn bytes)) (nodesIn labels bytes)) ++ rest ≡ bytes) (w .sound (two .0)) (w .held .are)

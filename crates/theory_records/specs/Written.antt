@@ -1,6 +1,6 @@
 -- What is written is read back: a walk over encodings accepts each and gives what was encoded.
-use Prim.Native.Nat.{ℕ, zero, suc, _+_, _*_, _≤_, _<_}
-use mathlib.Core.Path.{_≡_, refl, sym, subst, ap, _∙_}
+use Prim.Native.Nat.{ℕ, zero, suc, _+_, _*_, _^_, _≤_, _<_}
+use mathlib.Core.Path.{_≡_, sym, subst, ap, _∙_}
 use mathlib.Core.Bool.{Bool, true, false, cond, _&&_, _||_, not}
 use mathlib.Core.List.{List, [], _∷_, _++_, map, flatten, append-assoc, append-nil}
 use native.Mathlib.Omega.{arith}
@@ -15,14 +15,15 @@ use Rattle.meaning.specs.Paths.{Label}
 use Rattle.meaning.specs.Trees.{Node}
 use Rattle.meaning.specs.Keys.{Key}
 use Rattle.meaning.specs.Rules.{Line}
-use Rattle.meaning.specs.Records.{wordBytes, recordLength, recordKind, recordBody, recordBytes, bodyEnds, readNode, nodeBytes, keyIn, readKey, keyBody, keyBytes, isSome, readLine, lineBytes}
+use Rattle.meaning.specs.Records.{wordBytes, recordLength, recordKind, recordBody, recordBytes, readNode, nodeBytes, valueBytes, numberBytes, keyIn, readKey, keyBody, keyBytes, isSome, readLine, lineBytes}
 use Rattle.meaning.specs.Refusals.{Refusal, Walked, firstOf, walk, whole, tooMany, keyTests, goodRoot, goodBelow, treeTests, treeWalked, nodesIn, treeRefusal, lineTests, proofWalked, questionTests, questionWalked, questionRefusal, questionIn}
 use Rattle.theory_paths.specs.Good.{GoodKey, tests-of-good}
 use Rattle.theory_records.specs.Walks.{walk-step, walk-end}
 use Rattle.theory_records.specs.Heads.{written-length, written-kind, written-body, written-rest, bytes-length}
 use Rattle.theory_records.specs.KeyBodies.{key-in-read, key-is-read}
 use Rattle.theory_records.specs.Judged.{node-passes, line-passes, question-passes}
-use Rattle.theory_records.specs.Encodings.{written-whole, node-read, line-read}
+use Rattle.theory_records.specs.Encodings.{IsNodeKind, node-ends, kind-small, value-small, written-whole, node-read, line-read}
+use Rattle.theory_records.specs.Bytes.{number-length}
 
 -- what a walk has to know of one encoding in front of a rest
 pub record Reads {S A : Type 0} (tests : S → List ℕ → List (ℕ × Bool)) (next : S → List ℕ → S) (add : S → A → S) (encode : A → List ℕ)
@@ -78,38 +79,44 @@ module _ (kind : ℕ) (body : List ℕ) (fits : 4 + length body < 65536) where
   pub record-behind : (rest : List ℕ) → drop (length (recordBytes kind body)) (recordBytes kind body ++ rest) ≡ rest
   record-behind rest = ap (λ (k : ℕ). drop k (recordBytes kind body ++ rest)) (bytes-length kind body) ∙ written-rest kind body rest
 
--- Nodes
-pub record NodeFits (x : Node) : Type 0 where
+-- Nodes, of a kind
+pub record NodeFits (kind : ℕ) (x : Node) : Type 0 where
   pub parent : x .parent < 65536
-  pub value : x .value < 65536
+  pub value : x .value < 256 ^ valueBytes kind
 
 module _ (labels : List Label) where
   abbrev pub nextNode : List Node → List ℕ → List Node
   nextNode nodes l = nodes ++ (readNode (recordBody l) ∷ [])
 
-  pub node-reads : (nodes : List Node) (x : Node) → NodeFits x → length nodes < 4096
+  pub node-reads : {kind : ℕ} → IsNodeKind kind → (nodes : List Node) (x : Node) → NodeFits kind x → length nodes < 4096
       → cond (isEmpty nodes) (goodRoot x) (goodBelow labels nodes x) ≡ true
-      → Reads (treeTests labels) nextNode atEnd nodeBytes nodes x
-  unfolding nodeBytes wordBytes
-  node-reads nodes x fits room good =
-      let body : List ℕ = wordBytes (x .parent) ++ (x .label ∷ wordBytes (x .value)) in
+      → Reads (treeTests kind labels) nextNode atEnd (nodeBytes kind) nodes x
+  unfolding nodeBytes
+  node-reads {kind} isNode nodes x fits room good =
       record {
-        some = record-some 3 body (omega arith);
+        some = record-some kind body small;
         accepted =
             λ rest.
-            node-passes labels nodes (recordBytes 3 body ++ rest) room
-            (written-whole 3 body rest (omega arith) (omega arith) ∙ (unfold bodyEnds in refl))
-            (written-kind 3 body rest (omega arith))
+            node-passes kind labels nodes (recordBytes kind body ++ rest) room
+            (written-whole kind body rest small (kind-small isNode) ∙ node-ends isNode body long)
+            (written-kind kind body rest (kind-small isNode))
             (rw (same rest) good);
-        long = record-long 3 body (omega arith);
-        behind = record-behind 3 body (omega arith);
+        long = record-long kind body small;
+        behind = record-behind kind body small;
         read = λ rest. ap (λ (y : Node). nodes ++ (y ∷ [])) (same rest);
       }
     where
-      same : (rest : List ℕ) → readNode (recordBody (recordBytes 3 (wordBytes (x .parent) ++ (x .label ∷ wordBytes (x .value))) ++ rest)) ≡ x
-      same rest =
-          ap readNode (written-body 3 (wordBytes (x .parent) ++ (x .label ∷ wordBytes (x .value))) rest (omega arith))
-          ∙ node-read x (fits .parent) (fits .value)
+      body : List ℕ
+      body = wordBytes (x .parent) ++ (x .label ∷ numberBytes (valueBytes kind) (x .value))
+
+      long : length body ≡ 3 + valueBytes kind
+      long = unfold wordBytes in omega (arith, number-length (valueBytes kind) (x .value))
+
+      small : 4 + length body < 65536
+      small = omega (arith, long, value-small kind)
+
+      same : (rest : List ℕ) → readNode (recordBody (recordBytes kind body ++ rest)) ≡ x
+      same rest = ap readNode (written-body kind body rest small) ∙ node-read (valueBytes kind) x (fits .parent) (fits .value)
 
 pub add-all-end : {A : Type 0} (tests : List A → List ℕ → List (ℕ × Bool)) (next : List A → List ℕ → List A) (encode : A → List ℕ) (done xs : List A)
     → addAll tests next atEnd encode done xs ≡ done ++ xs

@@ -1,9 +1,11 @@
 -- Whole inputs that are written are accepted and read back: a tree, a question, a proof.
 use Prim.Native.Nat.{ℕ, zero, suc, _+_, _*_, _≤_, _<_}
-use mathlib.Core.Path.{_≡_, refl, sym, subst, ap, _∙_}
+use mathlib.Core.Path.{_≡_, refl, sym, subst, ap, ap₂, _∙_}
+use mathlib.Core.Logic.{inl, inr}
 use mathlib.Core.Bool.{Bool, true, false, cond, _&&_, _||_, not}
 use mathlib.Core.List.{List, [], _∷_, _++_, map, flatten, append-assoc, append-nil, List·Memᴰ, List·Memᴰ·head, List·Memᴰ·tail}
 use native.Mathlib.Omega.{arith}
+use native.Mathlib.Nat.{mul-le-mul-left, mul-pos}
 use borrow.Author.Tests.{le-leb, le-ltb, lt-ltb}
 use lib.Dec.{leb, ltb, eqb}
 use lib.ListN.{length, getD, drop, length-append, List·getD-append}
@@ -14,16 +16,17 @@ use Rattle.meaning.specs.Paths.{Label, isElement, classOf, isLabel}
 use Rattle.meaning.specs.Trees.{Node, noNode}
 use Rattle.meaning.specs.Keys.{Key}
 use Rattle.meaning.specs.Rules.{Line}
-use Rattle.meaning.specs.Records.{wordBytes, recordLength, recordKind, recordBody, recordBytes, bodyEnds, readNode, nodeBytes, keyIn, readKey, pathBytes, keyBody, keyBytes, isSome, readLine, lineBytes}
-use Rattle.meaning.specs.Refusals.{Refusal, sound, firstRefusal, oversize, Walked, firstOf, walk, whole, keyTests, goodRoot, goodBelow, treeTests, treeWalked, nodesIn, treeRefusal, lineTests, proofWalked, questionTests, questionWalked, questionRefusal, questionIn}
+use Rattle.meaning.specs.Records.{wordBytes, recordLength, recordKind, recordBody, recordBytes, bodyEnds, readNode, nodeBytes, valueBytes, numberBytes, keyIn, readKey, pathBytes, keyBody, keyBytes, isSome, readLine, lineBytes}
+use Rattle.meaning.specs.Refusals.{Refusal, sound, firstRefusal, oversize, Walked, firstOf, walk, whole, keyTests, goodRoot, goodBelow, nodeKindIn, treeLimit, treeTests, treeWalked, nodesIn, treeRefusal, lineTests, proofWalked, questionTests, questionWalked, questionRefusal, questionIn}
 use Rattle.theory_paths.specs.Good.{GoodKey, tests-of-good, context-length, target-length, key-path-length, paths-within}
 use Rattle.theory_records.specs.Tests.{and-true}
 use Rattle.theory_records.specs.Walks.{walk-step, walk-end}
 use Rattle.theory_records.specs.Heads.{written-length, written-kind, written-body, written-rest, bytes-length}
 use Rattle.theory_records.specs.KeyBodies.{key-in-read, key-is-read}
-use Rattle.theory_records.specs.Encodings.{written-whole, line-read}
+use Rattle.theory_records.specs.Encodings.{IsNodeKind, kind-small, written-whole, line-read}
+use Rattle.theory_records.specs.Bytes.{number-length}
 use Rattle.theory_records.specs.Judged.{some-empty, line-passes, question-passes}
-use Rattle.theory_records.specs.TreeFiles.{NodeBelow, NodesGood}
+use Rattle.theory_records.specs.TreeFiles.{stride, stride-least, NodeBelow, NodesGood}
 use Rattle.theory_records.specs.Written.{Reads, AllRead, noMore, oneRead, atEnd, record-some, record-long, record-behind, NodeFits, nextNode, node-reads, walk-written-all}
 
 -- a node that is good among all of them is good beside those before it
@@ -48,43 +51,73 @@ good-among labels (y ∷ done) x rest g =
     and-true (and-true (and-true one two) three) four
 
 module _ (labels : List Label) where
-  nodes-read : (done xs : List Node) → NodesGood labels (done ++ xs) → Each NodeFits xs → length (done ++ xs) ≤ 4096
-      → AllRead (treeTests labels) (nextNode labels) atEnd nodeBytes done xs
-  nodes-read done [] g fits few = noMore
-  nodes-read done (x ∷ xs) g (also f fits) few =
-      oneRead (node-reads labels done x f (omega (arith, length-append done (x ∷ xs))) (good-among labels done x xs g))
-      (nodes-read (done ++ (x ∷ [])) xs
+  nodes-read : {kind : ℕ} → IsNodeKind kind → (done xs : List Node) → NodesGood labels (done ++ xs) → Each (NodeFits kind) xs
+      → length (done ++ xs) ≤ 4096 → AllRead (treeTests kind labels) (nextNode labels) atEnd (nodeBytes kind) done xs
+  nodes-read isNode done [] g fits few = noMore
+  nodes-read isNode done (x ∷ xs) g (also f fits) few =
+      oneRead (node-reads labels isNode done x f (omega (arith, length-append done (x ∷ xs))) (good-among labels done x xs g))
+      (nodes-read isNode (done ++ (x ∷ [])) xs
       (subst (λ (l : List Node). NodesGood labels l) (sym (append-snoc done x xs)) g)
       fits
       (subst (λ (l : List Node). length l ≤ 4096) (sym (append-snoc done x xs)) few))
 
-  -- nine bytes to a node
-  pub nodes-size : (nodes : List Node) → length (flatten (map nodeBytes nodes)) ≡ 9 * length nodes
-  unfolding flatten nodeBytes recordBytes wordBytes
-  nodes-size [] = refl
-  nodes-size (x ∷ nodes) = omega (arith, nodes-size nodes, length-append (nodeBytes x) (flatten (map nodeBytes nodes)))
+  -- as many bytes to a node as its kind says
+  pub nodes-size : (kind : ℕ) (nodes : List Node) → length (flatten (map (nodeBytes kind) nodes)) ≡ stride kind * length nodes
+  unfolding flatten nodeBytes recordBytes wordBytes stride
+  nodes-size kind [] = omega arith
+  nodes-size kind (x ∷ nodes) =
+      let w = number-length (valueBytes kind) (x .value) in
+      omega (arith, nodes-size kind nodes, length-append (nodeBytes kind x) (flatten (map (nodeBytes kind) nodes)))
+
+  -- "still 4,096 nodes": they fill the limit of either kind
+  limit-full : (kind : ℕ) → treeLimit kind ≡ stride kind * 4096
+  unfolding treeLimit stride valueBytes
+  limit-full kind = go (eqb kind 5)
+    where
+      go : (b : Bool) → cond b 45056 36864 ≡ (7 + cond b 4 2) * 4096
+      go true = refl
+      go false = refl
+
+  -- the kind of what is written is that of its first node
+  kind-written : {kind : ℕ} → IsNodeKind kind → (nodes : List Node) → 0 < length nodes → nodeKindIn (flatten (map (nodeBytes kind) nodes)) ≡ kind
+  unfolding nodeKindIn flatten nodeBytes
+  kind-written isNode [] h = absurd (omega arith)
+  kind-written {kind} isNode (x ∷ nodes) h =
+      let body : List ℕ = wordBytes (x .parent) ++ (x .label ∷ numberBytes (valueBytes kind) (x .value)) in
+      let head : leb 4 (length (flatten (map (nodeBytes kind) (x ∷ nodes)))) ≡ true =
+      le-leb 4 (length (flatten (map (nodeBytes kind) (x ∷ nodes))))
+      (let s = nodes-size kind (x ∷ nodes) in let l = stride-least kind in omega arith) in
+      ap₂ (λ (b : Bool) (k : ℕ). cond (b && eqb k 5) 5 3) head (written-kind kind body (flatten (map (nodeBytes kind) nodes)) (kind-small isNode))
+      ∙ go isNode
+    where
+      go : IsNodeKind kind → cond (true && eqb kind 5) 5 3 ≡ kind
+      go (inl e) = rw e
+      go (inr e) = rw e
 
   -- a tree that is written is read back
-  pub tree-walked-written : (nodes : List Node) → NodesGood labels nodes → Each NodeFits nodes → length nodes ≤ 4096
-      → treeWalked labels (flatten (map nodeBytes nodes)) ≡ record { number = 0; at = length nodes; state = nodes }
-  unfolding treeWalked
-  tree-walked-written nodes g fits few =
-      walk-written-all (treeTests labels) (nextNode labels) nodeBytes nodes (nodes-read [] nodes g fits few)
+  module _ {kind : ℕ} (isNode : IsNodeKind kind) (nodes : List Node) (g : NodesGood labels nodes) (fits : Each (NodeFits kind) nodes)
+      (few : length nodes ≤ 4096) (some : 0 < length nodes) where
+    pub tree-walked-written : treeWalked labels (flatten (map (nodeBytes kind) nodes)) ≡ record { number = 0; at = length nodes; state = nodes }
+    unfolding treeWalked
+    tree-walked-written =
+        ap (λ (k : ℕ). walk (treeTests k labels) (nextNode labels) 0 0 [] (flatten (map (nodeBytes kind) nodes))) (kind-written isNode nodes some)
+        ∙ walk-written-all (treeTests kind labels) (nextNode labels) (nodeBytes kind) nodes (nodes-read isNode [] nodes g fits few)
 
-  pub nodes-in-written : (nodes : List Node) → NodesGood labels nodes → Each NodeFits nodes → length nodes ≤ 4096
-      → nodesIn labels (flatten (map nodeBytes nodes)) ≡ nodes
-  unfolding nodesIn
-  nodes-in-written nodes g fits few = ap (λ (w : Walked (List Node)). w .state) (tree-walked-written nodes g fits few)
+    pub nodes-in-written : nodesIn labels (flatten (map (nodeBytes kind) nodes)) ≡ nodes
+    unfolding nodesIn
+    nodes-in-written = ap (λ (w : Walked (List Node)). w .state) tree-walked-written
 
-  -- .. and accepted
-  pub tree-written-sound : (nodes : List Node) → NodesGood labels nodes → Each NodeFits nodes → length nodes ≤ 4096 → 0 < length nodes
-      → treeRefusal labels (flatten (map nodeBytes nodes)) ≡ sound
-  unfolding treeRefusal firstRefusal oversize
-  tree-written-sound nodes g fits few some =
-      let bytes : List ℕ = flatten (map nodeBytes nodes) in
-      let within : length bytes ≤ 36864 = omega (arith, nodes-size nodes) in
-      let some-bytes : 0 < length bytes = omega (arith, nodes-size nodes) in
-      rw (le-ltb 36864 (length bytes) within, tree-walked-written nodes g fits few, some-empty bytes some-bytes)
+    -- .. and accepted
+    pub tree-written-sound : treeRefusal labels (flatten (map (nodeBytes kind) nodes)) ≡ sound
+    unfolding treeRefusal firstRefusal oversize
+    tree-written-sound =
+        let bytes : List ℕ = flatten (map (nodeBytes kind) nodes) in
+        let size = nodes-size kind nodes in
+        let room = mul-le-mul-left (stride kind) few in
+        let within : length bytes ≤ treeLimit kind = omega (arith, limit-full kind) in
+        let any = mul-pos (let q : 0 < stride kind = omega (arith, stride-least kind) in q) some in
+        let some-bytes : 0 < length bytes = omega arith in
+        rw (kind-written isNode nodes some, le-ltb (treeLimit kind) (length bytes) within, tree-walked-written, some-empty bytes some-bytes)
 
 -- How long a key's body can be
 paths-size : (most : ℕ) (ps : List (List ℕ)) → ((p : List ℕ) → List·Memᴰ p ps → length p ≤ most)

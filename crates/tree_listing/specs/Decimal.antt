@@ -1,4 +1,4 @@
--- Decimal digits: one more digit for each division by ten; a number below 65,536 has at most five.
+-- Decimal digits: one more digit for each division by ten; a number of four bytes has at most ten.
 use Prim.Native.Nat.{ℕ, zero, suc, _+_, _-_, _*_, _/_, _%_, _<_, _≤_}
 use mathlib.Core.Path.{_≡_, refl, sym, _∙_, ap, subst}
 use mathlib.Core.Bool.{Bool, true, false, cond}
@@ -40,17 +40,20 @@ fewer k n h = go (decLt n 10)
     go (yes l) = let e = ap length (decimal-one n l) in omega arith
     go (no m) = let e = length-more n (omega arith) in let g = h (omega arith) in omega arith
 
-one-digit : (n : ℕ) → n < 10 → length (decimal n) ≤ 1
-one-digit n h = fewer 0 n (λ g. absurd (omega arith))
+-- ten, a hundred, a thousand ..
+unfoldable tens : ℕ → ℕ
+tens zero = 10
+tens (suc k) = 10 * tens k
 
-two-digits : (n : ℕ) → n < 100 → length (decimal n) ≤ 2
-two-digits n h = fewer 1 n (λ g. one-digit (n / 10) (omega arith))
+most-digits : (k n : ℕ) → n < tens k → length (decimal n) ≤ k + 1
+unfolding tens
+most-digits zero n h = fewer 0 n (λ g. absurd (omega arith))
+most-digits (suc k) n h = let m = fewer (k + 1) n (λ g. most-digits k (n / 10) (omega arith)) in omega arith
 
-three-digits : (n : ℕ) → n < 1000 → length (decimal n) ≤ 3
-three-digits n h = fewer 2 n (λ g. two-digits (n / 10) (omega arith))
+pub nine-digits : (n : ℕ) → n < 1000000000 → length (decimal n) ≤ 9
+unfolding tens
+nine-digits n h = most-digits 8 n h
 
-pub four-digits : (n : ℕ) → n < 10000 → length (decimal n) ≤ 4
-four-digits n h = fewer 3 n (λ g. three-digits (n / 10) (omega arith))
-
-pub five-digits : (n : ℕ) → n < 65536 → length (decimal n) ≤ 5
-five-digits n h = fewer 4 n (λ g. four-digits (n / 10) (omega arith))
+pub ten-digits : (n : ℕ) → n < 4294967296 → length (decimal n) ≤ 10
+unfolding tens
+ten-digits n h = most-digits 9 n (omega arith)

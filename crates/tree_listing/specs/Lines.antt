@@ -15,7 +15,7 @@ use Rattle.meaning.specs.Lists.{numbers}
 use Rattle.meaning.specs.Paths.{Class, Label, classOf, isElement}
 use Rattle.meaning.specs.Trees.{Table, Node, tableOf}
 use Rattle.meaning.specs.Listing.{decimal, space, newline, dash, firstLine, nodeLine, listing, block}
-use Rattle.tree_listing.specs.Decimal.{five-digits}
+use Rattle.tree_listing.specs.Decimal.{ten-digits}
 
 -- a number or `-`, and the byte behind it
 unfoldable pub field : Bool → ℕ → ℕ → List ℕ
@@ -71,9 +71,9 @@ mapped f [] i h = absurd (omega arith)
 mapped f (x ∷ l) zero h = refl
 mapped f (x ∷ l) (suc i) h = mapped f l i (omega arith)
 
-pub field-length : (shown : Bool) (n end : ℕ) → n < 65536 → length (field shown n end) ≤ 6
+pub field-length : (shown : Bool) (n end : ℕ) → n < 4294967296 → length (field shown n end) ≤ 11
 unfolding field
-field-length true n end h = let d = five-digits n h in let e = length-append (decimal n) (end ∷ []) in omega arith
+field-length true n end h = let d = ten-digits n h in let e = length-append (decimal n) (end ∷ []) in omega arith
 field-length false n end h = omega arith
 
 module _ (κ : ℕ → Class) (t : Table) where
@@ -88,8 +88,8 @@ module _ (κ : ℕ → Class) (t : Table) where
       mapped (lineOf κ t) (numbers (t .size) 0) x (let e = numbers-length (t .size) 0 in omega arith)
       ∙ ap (lineOf κ t) (numbers-at (t .size) 0 x (omega arith) ∙ zero-add x)
 
-  -- a line has at most 24 bytes
-  pub line-short : (x : ℕ) → x < 65536 → t .parent x < 65536 → t .label x < 65536 → t .value x < 65536 → length (lineOf κ t x) ≤ 24
+  -- a line has at most 44 bytes
+  pub line-short : (x : ℕ) → x < 4294967296 → t .parent x < 4294967296 → t .label x < 4294967296 → t .value x < 4294967296 → length (lineOf κ t x) ≤ 44
   unfolding lineOf
   line-short x a b c d =
       let p = field-length true x 32 a in
@@ -98,6 +98,6 @@ module _ (κ : ℕ → Class) (t : Table) where
       let s = field-length (not (isElement (κ (t .label x)))) (t .value x) 10 d in
       simp length-append (omega arith)
 
-  pub head-short : t .size < 65536 → length (headOf t) ≤ 12
+  pub head-short : t .size < 4294967296 → length (headOf t) ≤ 17
   unfolding headOf
   head-short h = let p = field-length true (t .size) 10 h in simp length-append (omega arith)

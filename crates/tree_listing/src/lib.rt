@@ -31,7 +31,7 @@ const BLOCKS: usize = 5;
 
 // A number in decimal digits.
 fn put_decimal(out: &mut [u8], at: usize, n: usize) -> usize
-    requires { ⌜ (n < 65536) × (at + 5 ≤ length (now out)) ⌝ }
+    requires { ⌜ (n < 4294967296) × (at + 10 ≤ length (now out)) ⌝ }
     ensures { λ r. ⌜ Wrote (now (out .entry)) (now (out .exit)) at (decimal n) r ⌝ }
 {
     if n < TEN {
@@ -45,7 +45,7 @@ fn put_decimal(out: &mut [u8], at: usize, n: usize) -> usize
 
 // A number, or `-` "for no parent or no value", and the byte behind it.
 fn put_field(out: &mut [u8], at: usize, shown: bool, n: usize, end: u8) -> usize
-    requires { ⌜ (n < 65536) × (at + 6 ≤ length (now out)) ⌝ }
+    requires { ⌜ (n < 4294967296) × (at + 11 ≤ length (now out)) ⌝ }
     ensures { λ r. ⌜ Wrote (now (out .entry)) (now (out .exit)) at (field shown n end) r ⌝ }
 {
     if shown {
@@ -60,7 +60,7 @@ fn put_field(out: &mut [u8], at: usize, shown: bool, n: usize, end: u8) -> usize
 
 // "First line: the word nodes and their number."
 fn put_head(out: &mut [u8], at: usize, tree: &[u8], classes: &[u8; 256]) -> usize
-    requires { ⌜ TreeBytes (now classes) (now tree) × (at + 24 ≤ length (now out)) ⌝ }
+    requires { ⌜ TreeBytes (now classes) (now tree) × (at + 44 ≤ length (now out)) ⌝ }
     ensures { λ r. ⌜ WroteLine (now (out .entry)) (now (out .exit)) at (headOf (fileTable (now (tree .entry)))) r ⌝ }
 {
     let next = put(out, at, b"nodes ");
@@ -69,7 +69,7 @@ fn put_head(out: &mut [u8], at: usize, tree: &[u8], classes: &[u8; 256]) -> usiz
 
 // "Then number, parent, label, value; `-` for no parent or no value."
 fn put_node(out: &mut [u8], at: usize, tree: &[u8], classes: &[u8; 256], x: usize) -> usize
-    requires { ⌜ TreeBytes (now classes) (now tree) × (x < fileTable (now tree) .size) × (at + 24 ≤ length (now out)) ⌝ }
+    requires { ⌜ TreeBytes (now classes) (now tree) × (x < fileTable (now tree) .size) × (at + 44 ≤ length (now out)) ⌝ }
     ensures { λ r. ⌜ WroteLine (now (out .entry)) (now (out .exit)) at (lineOf (classBy (now (classes .entry))) (fileTable (now (tree .entry))) x) r ⌝ }
 {
     let of_node = label(tree, x);
@@ -81,7 +81,7 @@ fn put_node(out: &mut [u8], at: usize, tree: &[u8], classes: &[u8; 256], x: usiz
 }
 
 fn put_line(out: &mut [u8], at: usize, tree: &[u8], classes: &[u8; 256], i: usize) -> usize
-    requires { ⌜ TreeBytes (now classes) (now tree) × (i < fileTable (now tree) .size + 1) × (at + 24 ≤ length (now out)) ⌝ }
+    requires { ⌜ TreeBytes (now classes) (now tree) × (i < fileTable (now tree) .size + 1) × (at + 44 ≤ length (now out)) ⌝ }
     ensures { λ r. ⌜ WroteLine (now (out .entry)) (now (out .exit)) at (lineAt (classBy (now (classes .entry))) (fileTable (now (tree .entry))) i) r ⌝ }
 {
     if i == 0 {

@@ -1,16 +1,24 @@
-// The fields of a node record: "length (2), kind (2), parent (2), label (1), value (2)".
+// The fields of a node record: "length (2), kind (2), parent (2), label (1), value (2)", or value (4).
+use shapes::bodies::NODE_KIND;
+use shapes::bodies::WIDE_KIND;
+use shapes::fields::HEAD_BYTES;
+use shapes::fields::KIND_AT;
+use shapes::fields::number;
 use shapes::fields::wide;
 use shapes::fields::word;
 ghost use mathlib.Core.Path.{_≡_};
-ghost use Prim.Native.Nat.{_+_, _*_, _<_, _≤_};
-ghost use lib.ListN.{length, getD};
+ghost use Prim.Native.Nat.{_+_, _<_, _≤_};
 ghost use Rattle.meaning.specs.Paths.{isElement, isAttribute};
-ghost use Rattle.tree_nodes.specs.FileTable.{fileTable, classBy};
+ghost use Rattle.meaning.specs.Records.{valueBytes};
+ghost use Rattle.meaning.specs.Refusals.{nodeKindIn};
+ghost use Rattle.tree_nodes.specs.FileTable.{fileStride, fileTable, classBy};
 
 // "tree 4,096 nodes"
 pub const NODES: usize = 4096;
-// 9 bytes a node record: the head's 4, and the body's 5.
-pub const NODE_BYTES: usize = 9;
+// 9 bytes a node record of kind 3: the head's 4, and the body's 5; 11 of kind 5.
+const NODE_BYTES: usize = 9;
+
+const WIDE_BYTES: usize = 11;
 
 const PARENT_AT: usize = 4;
 
@@ -24,32 +32,63 @@ const FILLER_ATTRIBUTE: usize = 202;
 
 const ATTRIBUTE_CLASS: usize = 2;
 
+// The kind of the file's nodes: that of its record 0, whose 4 head bytes decide.
+pub fn node_kind(tree: &[u8]) -> usize
+    ensures { λ r. ⌜ r ≡ nodeKindIn (now (tree .entry)) ⌝ }
+{
+    if tree.len() < HEAD_BYTES {
+        return NODE_KIND;
+    }
+    if word(tree, KIND_AT) == WIDE_KIND {
+        return WIDE_KIND;
+    }
+    NODE_KIND
+}
+
+// How many bytes a node record of the kind has.
+pub fn bytes_of(kind: usize) -> usize
+    ensures { λ r. ⌜ (r ≡ 7 + valueBytes kind) × (9 ≤ r) × (r ≤ 11) ⌝ }
+{
+    if kind == WIDE_KIND {
+        return WIDE_BYTES;
+    }
+    NODE_BYTES
+}
+
+fn node_bytes(tree: &[u8]) -> usize
+    ensures { λ r. ⌜ (r ≡ fileStride (now (tree .entry))) × (9 ≤ r) × (r ≤ 11) ⌝ }
+{
+    bytes_of(node_kind(tree))
+}
+
 // How many nodes the bytes hold.
 pub fn size(tree: &[u8]) -> usize
     ensures { λ r. ⌜ r ≡ fileTable (now (tree .entry)) .size ⌝ }
 {
-    tree.len() / NODE_BYTES
+    tree.len() / node_bytes(tree)
 }
 
 pub fn parent(tree: &[u8], i: usize) -> usize
-    requires { ⌜ 9 * i + 9 ≤ length (now tree) ⌝ }
+    requires { ⌜ i < fileTable (now tree) .size ⌝ }
     ensures { λ r. ⌜ (r ≡ fileTable (now (tree .entry)) .parent i) × (r < 65536) ⌝ }
 {
-    word(tree, NODE_BYTES * i + PARENT_AT)
+    word(tree, node_bytes(tree) * i + PARENT_AT)
 }
 
 pub fn label(tree: &[u8], i: usize) -> usize
-    requires { ⌜ 9 * i + 9 ≤ length (now tree) ⌝ }
+    requires { ⌜ i < fileTable (now tree) .size ⌝ }
     ensures { λ r. ⌜ (r ≡ fileTable (now (tree .entry)) .label i) × (r < 256) ⌝ }
 {
-    wide(tree[NODE_BYTES * i + LABEL_AT])
+    wide(tree[node_bytes(tree) * i + LABEL_AT])
 }
 
 pub fn value(tree: &[u8], i: usize) -> usize
-    requires { ⌜ 9 * i + 9 ≤ length (now tree) ⌝ }
-    ensures { λ r. ⌜ (r ≡ fileTable (now (tree .entry)) .value i) × (r < 65536) ⌝ }
+    requires { ⌜ i < fileTable (now tree) .size ⌝ }
+    ensures { λ r. ⌜ (r ≡ fileTable (now (tree .entry)) .value i) × (r < 4294967296) ⌝ }
 {
-    word(tree, NODE_BYTES * i + VALUE_AT)
+    let long = node_bytes(tree);
+    let at = long * i;
+    number(&tree[at + VALUE_AT..at + long])
 }
 
 pub fn is_attribute(classes: &[u8; 256], label: usize) -> bool

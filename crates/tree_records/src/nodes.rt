@@ -4,7 +4,6 @@ use judged::BAD_NODE;
 use judged::NOT_ALLOWED;
 use judged::NOT_WHOLE;
 use judged::TOO_LARGE;
-use shapes::bodies::NODE_KIND;
 use shapes::bodies::whole;
 use shapes::fields::HEAD_BYTES;
 use shapes::fields::KIND_AT;
@@ -14,7 +13,7 @@ use shapes::fields::node_value;
 use shapes::fields::too_many;
 use shapes::fields::wide;
 use shapes::fields::word;
-use tree_nodes::fields::NODE_BYTES;
+use tree_nodes::fields::bytes_of;
 use tree_nodes::fields::is_element;
 ghost use mathlib.Core.Path.{_≡_};
 ghost use Prim.Native.Nat.{_*_, _<_, _≤_};
@@ -22,6 +21,8 @@ ghost use lib.ListN.{length};
 ghost use Rattle.meaning.specs.Records.{readNode};
 ghost use Rattle.meaning.specs.Refusals.{firstOf, goodRoot};
 ghost use Rattle.shapes.specs.Classes.{isLabelBy};
+ghost use Rattle.theory_records.specs.Encodings.{IsNodeKind};
+ghost use Rattle.theory_records.specs.TreeFiles.{stride};
 ghost use Rattle.tree_records.specs.Nodes.{goodBelowBy, goodNodeBy, nodeTestsBy};
 
 // "Label 1 is text"; "201 is a filler element, 202 a filler attribute, 203 the root"
@@ -61,7 +62,7 @@ pub fn is_label(classes: &[u8; 256], label: usize) -> bool
 
 // "the root is node 0 with parent 65535"; "203 at the root alone"; "An element's value is 0"
 fn good_root(body: &[u8]) -> bool
-    requires { ⌜ 5 ≤ length (now body) ⌝ }
+    requires { ⌜ (3 ≤ length (now body)) × (length (now body) ≤ 7) ⌝ }
     ensures { λ r. ⌜ r ≡ goodRoot (readNode (now (body .entry))) ⌝ }
 {
     if node_parent(body) != NO_NUMBER {
@@ -74,15 +75,15 @@ fn good_root(body: &[u8]) -> bool
 }
 
 // "A node's parent has a smaller number"; "parent is attribute or text"; "An element's value is 0"
-fn good_below(bytes: &[u8], nodes: usize, body: &[u8], classes: &[u8; 256]) -> bool
-    requires { ⌜ (9 * nodes ≤ length (now bytes)) × (5 ≤ length (now body)) ⌝ }
-    ensures { λ r. ⌜ r ≡ goodBelowBy (now (classes .entry)) (now (bytes .entry)) nodes (readNode (now (body .entry))) ⌝ }
+fn good_below(bytes: &[u8], nodes: usize, body: &[u8], classes: &[u8; 256], long: usize) -> bool
+    requires { ⌜ (9 ≤ long) × (long * nodes ≤ length (now bytes)) × (3 ≤ length (now body)) × (length (now body) ≤ 7) ⌝ }
+    ensures { λ r. ⌜ r ≡ goodBelowBy long (now (classes .entry)) (now (bytes .entry)) nodes (readNode (now (body .entry))) ⌝ }
 {
     let parent = node_parent(body);
     if nodes <= parent {
         return false;
     }
-    let above = wide(bytes[NODE_BYTES * parent + LABEL_IN_RECORD]);
+    let above = wide(bytes[long * parent + LABEL_IN_RECORD]);
     if !is_element(classes, above) {
         return false;
     }
@@ -96,33 +97,40 @@ fn good_below(bytes: &[u8], nodes: usize, body: &[u8], classes: &[u8; 256]) -> b
     node_value(body) == 0
 }
 
-// 8: "parent, label or value not as above; parent is attribute or text"
-fn good_node(bytes: &[u8], nodes: usize, body: &[u8], classes: &[u8; 256]) -> bool
-    requires { ⌜ (9 * nodes ≤ length (now bytes)) × (5 ≤ length (now body)) ⌝ }
-    ensures { λ r. ⌜ r ≡ goodNodeBy (now (classes .entry)) (now (bytes .entry)) nodes (readNode (now (body .entry))) ⌝ }
+// 8: "parent, label or value not as above; parent is attribute or text"; so long are the records
+fn good_node(bytes: &[u8], nodes: usize, body: &[u8], classes: &[u8; 256], long: usize) -> bool
+    requires { ⌜ (9 ≤ long) × (long * nodes ≤ length (now bytes)) × (3 ≤ length (now body)) × (length (now body) ≤ 7) ⌝ }
+    ensures { λ r. ⌜ r ≡ goodNodeBy long (now (classes .entry)) (now (bytes .entry)) nodes (readNode (now (body .entry))) ⌝ }
 {
     if nodes == 0 {
         return good_root(body);
     }
-    good_below(bytes, nodes, body, classes)
+    good_below(bytes, nodes, body, classes, long)
 }
 
-// The number that the node record at the front of `rest` gives, after so many nodes at the front of `bytes`.
-pub fn judge_node(bytes: &[u8], nodes: usize, rest: &[u8], classes: &[u8; 256]) -> usize
-    requires { ⌜ 9 * nodes ≤ length (now bytes) ⌝ }
-    ensures { λ r. ⌜ r ≡ firstOf (nodeTestsBy (now (classes .entry)) (now (bytes .entry)) nodes (now (rest .entry))) ⌝ }
+// The number that the node record at the front of `rest` gives, after so many nodes of the kind at the front of `bytes`.
+pub fn judge_node(
+    bytes: &[u8],
+    nodes: usize,
+    rest: &[u8],
+    classes: &[u8; 256],
+    kind: usize,
+) -> usize
+    requires { ⌜ IsNodeKind kind × (stride kind * nodes ≤ length (now bytes)) ⌝ }
+    ensures { λ r. ⌜ r ≡ firstOf (nodeTestsBy kind (now (classes .entry)) (now (bytes .entry)) nodes (now (rest .entry))) ⌝ }
 {
-    if too_many(rest, NODE_KIND, TREE_NODES, nodes) {
+    if too_many(rest, kind, TREE_NODES, nodes) {
         return TOO_LARGE;
     }
     if !whole(rest) {
         return NOT_WHOLE;
     }
-    if word(rest, KIND_AT) != NODE_KIND {
+    if word(rest, KIND_AT) != kind {
         return NOT_ALLOWED;
     }
     let end = word(rest, 0);
-    if good_node(bytes, nodes, &rest[HEAD_BYTES..end], classes) {
+    let long = bytes_of(kind);
+    if good_node(bytes, nodes, &rest[HEAD_BYTES..end], classes, long) {
         return ACCEPTED;
     }
     BAD_NODE

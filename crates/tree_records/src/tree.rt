@@ -4,22 +4,36 @@ use judged::ACCEPTED;
 use judged::BAD_NODE;
 use judged::Judged;
 use judged::TOO_LARGE;
+use shapes::bodies::WIDE_KIND;
 use shapes::fields::word;
+use tree_nodes::fields::node_kind;
 ghost use mathlib.Core.Path.{_≡_};
 ghost use mathlib.Core.List.{List};
 ghost use Rattle.meaning.specs.Paths.{Label};
-ghost use Rattle.meaning.specs.Refusals.{treeRefusal};
+ghost use Rattle.meaning.specs.Refusals.{treeLimit, treeRefusal};
 ghost use Rattle.shapes.specs.Classes.{Tabled};
 ghost use Rattle.judged.specs.Answers.{refusalOf};
 
 // "tree 4,096 nodes (36,864 bytes)"
-pub const TREE_BYTES: usize = 36864;
+const TREE_BYTES: usize = 36864;
+// "The limit of a tree whose record 0 is kind 5 is 45,056 bytes, still 4,096 nodes."
+pub const WIDE_TREE_BYTES: usize = 45056;
+
+fn tree_limit(kind: usize) -> usize
+    ensures { λ r. ⌜ r ≡ treeLimit kind ⌝ }
+{
+    if kind == WIDE_KIND {
+        return WIDE_TREE_BYTES;
+    }
+    TREE_BYTES
+}
 
 // The refusal of input 3, a tree, under a class table that says what the labels say.
 pub fn read_tree(bytes: &[u8], classes: &[u8; 256]) -> Judged
     ensures { λ r. ⌜ ((labels : List Label) → Tabled labels (now (classes .entry)) → refusalOf 3 r ≡ treeRefusal labels (now (bytes .entry))) ⌝ }
 {
-    if TREE_BYTES < bytes.len() {
+    let kind = node_kind(bytes);
+    if tree_limit(kind) < bytes.len() {
         return Judged::Refused(TOO_LARGE, 0);
     }
     if bytes.len() == 0 {
@@ -28,7 +42,7 @@ pub fn read_tree(bytes: &[u8], classes: &[u8; 256]) -> Judged
     let mut rest = bytes;
     let mut nodes = 0;
     while 0 < rest.len() {
-        let number = judge_node(bytes, nodes, rest, classes);
+        let number = judge_node(bytes, nodes, rest, classes, kind);
         if number != ACCEPTED {
             return Judged::Refused(number, nodes);
         }

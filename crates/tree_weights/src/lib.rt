@@ -15,7 +15,7 @@ ghost use Rattle.tree_nodes.specs.FileTable.{fileTable, classBy, TreeBytes};
 ghost use Rattle.tree_classes.specs.Leaders.{Weighed};
 ghost use Rattle.tree_weights.specs.Weights.{mix, weightOf};
 
-// A value has two bytes; a weight has 32 bits.
+// A label stands above two bytes of the value; a value has up to four, a weight has 32 bits.
 const VALUES: usize = 65536;
 
 const RANGE: usize = 4294967296;
@@ -29,7 +29,7 @@ fn wide(n: u32) -> usize
 }
 
 fn mixed(tag: usize, worth: usize, sum: usize) -> usize
-    requires { ⌜ (tag < 256) × (worth < 65536) × (sum < 4294967296) ⌝ }
+    requires { ⌜ (tag < 256) × (worth < 4294967296) × (sum < 4294967296) ⌝ }
     ensures { λ r. ⌜ (r ≡ mix tag worth sum) × (r < 4294967296) ⌝ }
 {
     let joined = (tag * VALUES + worth + sum) % RANGE;

@@ -43,29 +43,29 @@ module _ (κ : ℕ → Class) (asked : Key) (d : Drawing) (drew : IsDrawn κ ask
       ∙ sym (ap (λ (l : List Dressed). nodeFrom κ cut shift (suc x) (getD l (suc x) (noDressed κ asked))) (drew .are))
 
   copy-is : (cut shift from count : ℕ) → from + count ≤ d .size
-      → copyBytes κ d cut shift from count ≡ flatten (map nodeBytes (map (writtenNode κ asked cut shift) (numbers count from)))
+      → copyBytes κ d cut shift from count ≡ flatten (map (nodeBytes 5) (map (writtenNode κ asked cut shift) (numbers count from)))
   unfolding copyBytes
   copy-is cut shift from count h =
-      ap (λ (l : List Node). flatten (map nodeBytes l))
+      ap (λ (l : List Node). flatten (map (nodeBytes 5) l))
       (map-agree (λ (x : ℕ). nodeFrom κ cut shift x (entryAt d x)) (writtenNode κ asked cut shift) count from
       (λ x a b. node-is cut shift x (omega arith)))
 
   -- the three parts one after another
   three : (cut : ℕ) → cut ≤ d .size
       → copyBytes κ d cut 0 0 cut ++ copyBytes κ d cut 0 cut (d .size - cut) ++ copyBytes κ d cut (d .size - cut) cut (d .size - cut)
-      ≡ flatten (map nodeBytes (map (writtenNode κ asked cut 0) (numbers (d .size) 0) ++ map (writtenNode κ asked cut (d .size - cut)) (numbers (d .size - cut) cut)))
+      ≡ flatten (map (nodeBytes 5) (map (writtenNode κ asked cut 0) (numbers (d .size) 0) ++ map (writtenNode κ asked cut (d .size - cut)) (numbers (d .size - cut) cut)))
   three cut h =
       let e : cut + (d .size - cut) ≡ d .size = omega arith in
       let z : 0 + cut ≡ cut = omega arith in
       ap₂ (λ (x y : List ℕ). x ++ y)
       (ap₂ (λ (x y : List ℕ). x ++ y) (copy-is cut 0 0 cut (omega arith)) (copy-is cut 0 cut (d .size - cut) (omega arith))
       ∙ sym (nodes-more (writtenNode κ asked cut 0) (numbers cut 0) (numbers (d .size - cut) cut))
-      ∙ ap (λ (l : List ℕ). flatten (map nodeBytes (map (writtenNode κ asked cut 0) l)))
+      ∙ ap (λ (l : List ℕ). flatten (map (nodeBytes 5) (map (writtenNode κ asked cut 0) l)))
       (ap (λ (k : ℕ). numbers cut 0 ++ numbers (d .size - cut) k) (sym z) ∙ sym (numbers-split cut (d .size - cut) 0) ∙ ap (λ (k : ℕ). numbers k 0) e))
       (copy-is cut (d .size - cut) cut (d .size - cut) (omega arith))
       ∙ sym
-      (ap flatten (map-append nodeBytes (map (writtenNode κ asked cut 0) (numbers (d .size) 0)) (map (writtenNode κ asked cut (d .size - cut)) (numbers (d .size - cut) cut)))
-      ∙ flatten-append (map nodeBytes (map (writtenNode κ asked cut 0) (numbers (d .size) 0))) (map nodeBytes (map (writtenNode κ asked cut (d .size - cut)) (numbers (d .size - cut) cut))))
+      (ap flatten (map-append (nodeBytes 5) (map (writtenNode κ asked cut 0) (numbers (d .size) 0)) (map (writtenNode κ asked cut (d .size - cut)) (numbers (d .size - cut) cut)))
+      ∙ flatten-append (map (nodeBytes 5) (map (writtenNode κ asked cut 0) (numbers (d .size) 0))) (map (nodeBytes 5) (map (writtenNode κ asked cut (d .size - cut)) (numbers (d .size - cut) cut))))
 
 module _ (κ : ℕ → Class) {body : List ℕ} {u : ℕ} (asked : Asked body u) {trunk d : Drawing} (h : Shown trunk (drawTrunk κ (keyIn body) u) 34)
     (k : Shown d (drawBelow κ (keyIn body) u (sketch trunk)) 128) where
@@ -100,47 +100,47 @@ module _ (κ : ℕ → Class) {body : List ℕ} {u : ℕ} (asked : Asked body u)
       ∙ ap₂
       (λ (cut all : ℕ).
       flatten
-      (map nodeBytes
+      (map (nodeBytes 5)
       (map (writtenNode κ (keyIn body) cut 0) (numbers all 0) ++ map (writtenNode κ (keyIn body) cut (all - cut)) (numbers (all - cut) cut))))
       cut-is all-is
 
   -- there is room for the first copy, and for the second
   pub first-room : {before one : List ℕ} → Front before one (copyBytes κ d (trunk .size) 0 0 (trunk .size - 0)) → 65536 ≤ length before
-      → Copying d (trunk .size) (d .size) 0 (length (take (length one - 9 * trunk .size) (drop (9 * trunk .size) one)))
+      → Copying d (trunk .size) (d .size) 0 (length (take (length one - 11 * trunk .size) (drop (11 * trunk .size) one)))
   first-room {one = one} f r =
       let w = cut-within in
       let s = k .short in
       let l = front-length f in
-      copying-rest (9 * trunk .size) one (k .sized) w s (omega arith) (omega arith)
+      copying-rest (11 * trunk .size) one (k .sized) w s (omega arith) (omega arith)
 
   module _ {before one ys : List ℕ} (f : Front before one (copyBytes κ d (trunk .size) 0 0 (trunk .size - 0)))
-      (g : Front (take (length one - 9 * trunk .size) (drop (9 * trunk .size) one)) ys (copyBytes κ d (trunk .size) 0 (trunk .size) (d .size - trunk .size))) where
+      (g : Front (take (length one - 11 * trunk .size) (drop (11 * trunk .size) one)) ys (copyBytes κ d (trunk .size) 0 (trunk .size) (d .size - trunk .size))) where
     two : List ℕ
-    two = putMid (9 * trunk .size) (length one - 9 * trunk .size) one ys
+    two = putMid (11 * trunk .size) (length one - 11 * trunk .size) one ys
 
     first : Front before one (copyBytes κ d (trunk .size) 0 0 (trunk .size))
     first = let e : trunk .size - 0 ≡ trunk .size = omega arith in front-same (ap (copyBytes κ d (trunk .size) 0 0) e) f
 
     second : Front before two (copyBytes κ d (trunk .size) 0 0 (trunk .size) ++ copyBytes κ d (trunk .size) 0 (trunk .size) (d .size - trunk .size))
     unfolding two
-    second = front-more (9 * trunk .size) first (sym (copy-length κ d (trunk .size) 0 0 (trunk .size))) g
+    second = front-more (11 * trunk .size) first (sym (copy-length κ d (trunk .size) 0 0 (trunk .size))) g
 
     pub second-room : 65536 ≤ length before
         → Copying d (trunk .size) (d .size) (d .size - trunk .size)
-        (length (take (length (putMid (9 * trunk .size) (length one - 9 * trunk .size) one ys) - 9 * d .size) (drop (9 * d .size) (putMid (9 * trunk .size) (length one - 9 * trunk .size) one ys))))
+        (length (take (length (putMid (11 * trunk .size) (length one - 11 * trunk .size) one ys) - 11 * d .size) (drop (11 * d .size) (putMid (11 * trunk .size) (length one - 11 * trunk .size) one ys))))
     unfolding two
     second-room r =
         let w = cut-within in
         let s = k .short in
         let l = front-length second in
-        copying-rest (9 * d .size) two (k .sized) w s (omega arith) (omega arith)
+        copying-rest (11 * d .size) two (k .sized) w s (omega arith) (omega arith)
 
     pub tree-written : {zs : List ℕ}
-        → Front (take (length (putMid (9 * trunk .size) (length one - 9 * trunk .size) one ys) - 9 * d .size) (drop (9 * d .size) (putMid (9 * trunk .size) (length one - 9 * trunk .size) one ys)))
+        → Front (take (length (putMid (11 * trunk .size) (length one - 11 * trunk .size) one ys) - 11 * d .size) (drop (11 * d .size) (putMid (11 * trunk .size) (length one - 11 * trunk .size) one ys)))
         zs (copyBytes κ d (trunk .size) (d .size - trunk .size) (trunk .size) (d .size - trunk .size))
         → TreeWritten κ (keyIn body) u before
-        (putMid (9 * d .size) (length (putMid (9 * trunk .size) (length one - 9 * trunk .size) one ys) - 9 * d .size) (putMid (9 * trunk .size) (length one - 9 * trunk .size) one ys) zs)
-        (9 * d .size + 9 * (d .size - trunk .size))
+        (putMid (11 * d .size) (length (putMid (11 * trunk .size) (length one - 11 * trunk .size) one ys) - 11 * d .size) (putMid (11 * trunk .size) (length one - 11 * trunk .size) one ys) zs)
+        (11 * d .size + 11 * (d .size - trunk .size))
     unfolding two
     tree-written t =
         let A = copyBytes κ d (trunk .size) 0 0 (trunk .size) in
@@ -152,7 +152,7 @@ module _ (κ : ℕ → Class) {body : List ℕ} {u : ℕ} (asked : Asked body u)
         let ab = length-append A B in
         let abc = length-append (A ++ B) C in
         let w = cut-within in
-        let e = front-same bytes-are (front-more (9 * d .size) second (omega arith) t) in
+        let e = front-same bytes-are (front-more (11 * d .size) second (omega arith) t) in
         let l = ap length bytes-are in
-        let n : 9 * d .size + 9 * (d .size - trunk .size) ≡ length (writtenTree κ (keyIn body) u) = omega arith in
+        let n : 11 * d .size + 11 * (d .size - trunk .size) ≡ length (writtenTree κ (keyIn body) u) = omega arith in
         record { is = e .is ∙ ap (λ (m : ℕ). writtenTree κ (keyIn body) u ++ drop m before) (sym n); used = n }

@@ -33,7 +33,7 @@ nodeFrom κ cut shift x e =
     }
 
 unfoldable pub copyBytes : (ℕ → Class) → Drawing → ℕ → ℕ → ℕ → ℕ → List ℕ
-copyBytes κ d cut shift from count = flatten (map nodeBytes (map (λ (x : ℕ). nodeFrom κ cut shift x (entryAt d x)) (numbers count from)))
+copyBytes κ d cut shift from count = flatten (map (nodeBytes 5) (map (λ (x : ℕ). nodeFrom κ cut shift x (entryAt d x)) (numbers count from)))
 
 -- There is room for the records of so many nodes
 pub record Copying (d : Drawing) (from to shift free : ℕ) : Type 0 where
@@ -41,7 +41,7 @@ pub record Copying (d : Drawing) (from to shift free : ℕ) : Type 0 where
   pub order : from ≤ to
   pub within : to ≤ 128
   pub small : shift ≤ 128
-  pub room : 9 * (to - from) ≤ free
+  pub room : 11 * (to - from) ≤ free
 
 -- The nodes from number `from` up to x are written
 pub record Copied (κ : ℕ → Class) (d : Drawing) (cut shift from to : ℕ) (before after : List ℕ) (x : ℕ) : Type 0 where
@@ -49,7 +49,7 @@ pub record Copied (κ : ℕ → Class) (d : Drawing) (cut shift from to : ℕ) (
   pub within : x ≤ to
   pub front : Front before after (copyBytes κ d cut shift from (x - from))
 
--- "The answer reports bytes used, which is 9 times the nodes. Bytes after those used are unchanged."
+-- "The answer reports bytes used, which is 11 times the nodes. Bytes after those used are unchanged."
 pub record TreeWritten (κ : ℕ → Class) (asked : Key) (u : ℕ) (before after : List ℕ) (bytes : ℕ) : Type 0 where
   pub is : after ≡ writtenTree κ asked u ++ drop bytes before
   pub used : bytes ≡ length (writtenTree κ asked u)

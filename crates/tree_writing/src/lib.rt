@@ -13,14 +13,16 @@ ghost use Rattle.drawing.specs.Sketch.{Sized, Asked, entryAt};
 ghost use Rattle.tree_writing.specs.Front.{Front};
 ghost use Rattle.tree_writing.specs.Written.{parentOf, valueOf, nodeFrom, copyBytes, Copying, TreeWritten};
 
-// "length of the whole record (two bytes, little-endian), kind (two bytes), body"; 9 bytes a node record, kind 3
-const NODE_BYTES: usize = 9;
+// "length of the whole record (two bytes, little-endian), kind (two bytes), body"; 11 bytes a node record, kind 5
+const NODE_BYTES: usize = 11;
 
-const NODE_LENGTH: u8 = 9;
+const NODE_LENGTH: u8 = 11;
 
-const NODE_KIND: u8 = 3;
+const WIDE_KIND: u8 = 5;
 
 const BYTE: usize = 256;
+
+const WORD: usize = 65536;
 // "the root is node 0 with parent 65535"
 const NO_NUMBER: usize = 65535;
 
@@ -37,24 +39,29 @@ fn high(n: usize) -> u8
     (n / BYTE % BYTE) as u8
 }
 
-// "parent (2), label (1), value (2)"
+// "parent (2), label (1)", value (4)
 fn write_node(out: &mut [u8], parent: usize, label: u8, value: usize)
-    requires { ⌜ 9 ≤ length (now out) ⌝ }
-    ensures { λ r. ⌜ Front (now (out .entry)) (now (out .exit)) (nodeBytes (record { parent = parent; label = label; value = value })) ⌝ }
+    requires { ⌜ 11 ≤ length (now out) ⌝ }
+    ensures { λ r. ⌜ Front (now (out .entry)) (now (out .exit)) (nodeBytes 5 (record { parent = parent; label = label; value = value })) ⌝ }
 {
     let parent_low = low(parent);
     let parent_high = high(parent);
     let value_low = low(value);
     let value_high = high(value);
+    let above = value / WORD;
+    let above_low = low(above);
+    let above_high = high(above);
     out[0] = NODE_LENGTH;
     out[1] = 0;
-    out[2] = NODE_KIND;
+    out[2] = WIDE_KIND;
     out[3] = 0;
     out[4] = parent_low;
     out[5] = parent_high;
     out[6] = label;
     out[7] = value_low;
     out[8] = value_high;
+    out[9] = above_low;
+    out[10] = above_high;
 }
 
 // What stands before the cut is there once; the others hang under their own copy's nodes.
@@ -94,8 +101,8 @@ fn write_drawn(
     shift: usize,
     x: usize,
 )
-    requires { ⌜ Sized drawing × (x < 128) × (shift ≤ 128) × (9 ≤ length (now out)) ⌝ }
-    ensures { λ r. ⌜ Front (now (out .entry)) (now (out .exit)) (nodeBytes (nodeFrom (classBy (now (classes .entry))) cut shift x (entryAt drawing x))) ⌝ }
+    requires { ⌜ Sized drawing × (x < 128) × (shift ≤ 128) × (11 ≤ length (now out)) ⌝ }
+    ensures { λ r. ⌜ Front (now (out .entry)) (now (out .exit)) (nodeBytes 5 (nodeFrom (classBy (now (classes .entry))) cut shift x (entryAt drawing x))) ⌝ }
 {
     let above = wide(drawing.parents[x]);
     let label = drawing.labels[x];

@@ -213,16 +213,16 @@ pub never-both : (profile question proof tree : List ℕ) → ChecksProof profil
     → ChecksCounterexample profile question tree (plain accepted) → ⊥
 never-both profile question proof tree p t = accepted-tree-refutes profile question tree t (accepted-proof-implies profile question proof p)
 
--- "not implied with bytes used (9 times the nodes)"
+-- "not implied with bytes used (11 times the nodes)"
 pub tree-used : (profile question buffer : List ℕ) → profileRefusal profile .number ≡ 0 → questionRefusal (labelsIn profile) question .number ≡ 0
     → (answer : Answer) (t : TreeWritten profile question buffer answer)
-    → answer .used ≡ 9 * length (writtenNodes (classOf (labelsIn profile)) (questionIn question) (t .u))
+    → answer .used ≡ 11 * length (writtenNodes (classOf (labelsIn profile)) (questionIn question) (t .u))
 unfolding filled
 tree-used profile question buffer p q answer t = ap (λ (a : Answer). a .used) (t .answered) ∙ tree-bytes profile question p q (t .u) (t .isU)
 
 -- request 8: at most 178 nodes, for every question that is accepted
 pub tree-within : (profile question buffer : List ℕ) → profileRefusal profile .number ≡ 0 → questionRefusal (labelsIn profile) question .number ≡ 0
-    → (answer : Answer) → TreeWritten profile question buffer answer → answer .used ≤ 9 * 178
+    → (answer : Answer) → TreeWritten profile question buffer answer → answer .used ≤ 11 * 178
 tree-within profile question buffer p q answer t =
     let e = tree-used profile question buffer p q answer t in
     let m = tree-most profile question p q (t .u) (t .isU) in

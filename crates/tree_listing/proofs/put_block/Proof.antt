@@ -14,7 +14,7 @@ use Rattle.tree_listing.proofs.put_line.Reads as put-line-reads
 use Rattle.tree_nodes.proofs.fields.size.Reads as size-reads
 
 abbrev Inv-loop : tie.InvT-loop
-Inv-loop out₀ tree classes k lines start at₀ i₀ out at i = (start ≤ i) × (i ≤ start + 1024) × (at ≤ 24 * (i - start)) × (length out ≡ length out₀)
+Inv-loop out₀ tree classes k lines start at₀ i₀ out at i = (start ≤ i) × (i ≤ start + 1024) × (at ≤ 44 * (i - start)) × (length out ≡ length out₀)
     × Wrote out₀ out 0 (shown (classBy classes) (fileTable tree) start i) at
 
 abbrev μ-loop : tie.MeasureT-loop

@@ -33,13 +33,13 @@ parent-requires c κs = search needs
 -- src/lib.rt:80:9
 put-field-requires-2 : tie.Need-put-field-requires-2
 put-field-requires-2 c κs = let f = c .before .before .before .before .before .before .before .before .before .before .pre .0 .few in
-    (c .parent .ensures .1, let g = field-after 18 _ _ _ (let h = c .before .before .before .before .before .before .before .before .before .before .pre .1 in omega arith) (let h = c .before .before .before .before .before .before .before .before .before .before .pre .2 in omega arith) (c .before .before .before .before .put-field .ensures) in omega arith)
+    (let y = c .parent .ensures .1 in omega arith, let g = field-after 33 _ _ _ (let h = c .before .before .before .before .before .before .before .before .before .before .pre .1 in omega arith) (let h = c .before .before .before .before .before .before .before .before .before .before .pre .2 in omega arith) (c .before .before .before .before .put-field .ensures) in omega arith)
 
 -- src/lib.rt:81:9
 put-field-requires-3 : tie.Need-put-field-requires-3
 put-field-requires-3 c κs = let f = c .before .before .before .before .before .before .before .before .before .before .before .before .before .before .pre .0 .few in
-    let g = field-after 18 _ _ _ (let h = c .before .before .before .before .before .before .before .before .before .before .before .before .before .before .pre .1 in omega arith) (let h = c .before .before .before .before .before .before .before .before .before .before .before .before .before .before .pre .2 in omega arith) (c .before .before .before .before .before .before .before .before .put-field .ensures) in
-    let g2 = field-after 12 _ _ _ (c .before .before .before .before .parent .ensures .1) (omega arith) (c .before .before .before .put-field2 .ensures) in
+    let g = field-after 33 _ _ _ (let h = c .before .before .before .before .before .before .before .before .before .before .before .before .before .before .pre .1 in omega arith) (let h = c .before .before .before .before .before .before .before .before .before .before .before .before .before .before .pre .2 in omega arith) (c .before .before .before .before .before .before .before .before .put-field .ensures) in
+    let g2 = field-after 22 _ _ _ (let y = c .before .before .before .before .parent .ensures .1 in omega arith) (omega arith) (c .before .before .before .put-field2 .ensures) in
     (let h = c .before .before .before .before .before .before .before .before .before .before .before .label .ensures .1 in omega arith, omega arith)
 
 -- src/lib.rt:82:39
@@ -49,9 +49,9 @@ value-requires c κs = search needs
 -- src/lib.rt:82:5
 put-field-requires-4 : tie.Need-put-field-requires-4
 put-field-requires-4 c κs = let f = c .before .before .before .before .before .before .before .before .before .before .before .before .before .before .before .before .before .before .before .pre .0 .few in
-    let g = field-after 18 _ _ _ (let h = c .before .before .before .before .before .before .before .before .before .before .before .before .before .before .before .before .before .before .before .pre .1 in omega arith) (let h = c .before .before .before .before .before .before .before .before .before .before .before .before .before .before .before .before .before .before .before .pre .2 in omega arith) (c .before .before .before .before .before .before .before .before .before .before .before .before .before .put-field .ensures) in
-    let g2 = field-after 12 _ _ _ (c .before .before .before .before .before .before .before .before .before .parent .ensures .1) (omega arith) (c .before .before .before .before .before .before .before .before .put-field2 .ensures) in
-    let g3 = field-after 6 _ _ _ (let h = c .before .before .before .before .before .before .before .before .before .before .before .before .before .before .before .before .label .ensures .1 in omega arith) (omega arith) (c .before .before .before .before .put-field3 .ensures) in
+    let g = field-after 33 _ _ _ (let h = c .before .before .before .before .before .before .before .before .before .before .before .before .before .before .before .before .before .before .before .pre .1 in omega arith) (let h = c .before .before .before .before .before .before .before .before .before .before .before .before .before .before .before .before .before .before .before .pre .2 in omega arith) (c .before .before .before .before .before .before .before .before .before .before .before .before .before .put-field .ensures) in
+    let g2 = field-after 22 _ _ _ (let y = c .before .before .before .before .before .before .before .before .before .parent .ensures .1 in omega arith) (omega arith) (c .before .before .before .before .before .before .before .before .put-field2 .ensures) in
+    let g3 = field-after 11 _ _ _ (let h = c .before .before .before .before .before .before .before .before .before .before .before .before .before .before .before .before .label .ensures .1 in omega arith) (omega arith) (c .before .before .before .before .put-field3 .ensures) in
     (c .value .ensures .1, omega arith)
 
 -- src/lib.rt:73:1
@@ -60,7 +60,7 @@ same-length c = search needs
 
 -- src/lib.rt:73:1
 returns : tie.Need-returns
-returns c = line-wrote _ _ _ _ _ _ _ _ (c .before .before .before .before .before .before .before .before .before .before .before .before .before .before .before .before .before .before .before .before .before .before .pre .2) (let f = c .before .before .before .before .before .before .before .before .before .before .before .before .before .before .before .before .before .before .before .before .before .before .pre .0 .few in let h = c .before .before .before .before .before .before .before .before .before .before .before .before .before .before .before .before .before .before .before .before .before .before .pre .1 in omega arith) (c .before .before .before .before .before .before .before .before .before .before .before .before .parent .ensures .1) (c .before .before .before .before .before .before .before .before .before .before .before .before .before .before .before .before .before .before .before .label .ensures .1) (c .before .before .before .value .ensures .1)
+returns c = line-wrote _ _ _ _ _ _ _ _ (c .before .before .before .before .before .before .before .before .before .before .before .before .before .before .before .before .before .before .before .before .before .before .pre .2) (let f = c .before .before .before .before .before .before .before .before .before .before .before .before .before .before .before .before .before .before .before .before .before .before .pre .0 .few in let h = c .before .before .before .before .before .before .before .before .before .before .before .before .before .before .before .before .before .before .before .before .before .before .pre .1 in omega arith) (let y = c .before .before .before .before .before .before .before .before .before .before .before .before .parent .ensures .1 in omega arith) (c .before .before .before .before .before .before .before .before .before .before .before .before .before .before .before .before .before .before .before .label .ensures .1) (c .before .before .before .value .ensures .1)
     (c .before .before .before .before .before .before .before .before .before .before .before .before .before .before .before .before .put-field .ensures) (c .before .before .before .before .before .before .before .before .before .before .before .put-field2 .ensures) (c .before .before .before .before .before .before .before .put-field3 .ensures) (c .before .before .put-field4 .ensures) (c .before .before .before .before .before .before .before .before .before .before .before .before .parent .ensures .0) refl (c .before .before .before .before .before .before .before .before .before .before .before .before .before .before .before .before .before .before .before .label .ensures .0) (ap not (c .before .before .before .before .before .before .before .before .before .before .before .before .before .before .before .before .before .before .is-element .ensures)) (c .before .before .before .value .ensures .0)
 
 pub put-node-spec : {M : Type 1} → statement M

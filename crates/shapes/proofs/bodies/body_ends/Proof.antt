@@ -1,5 +1,5 @@
 -- `shapes::bodies::body_ends` meets its contract. One law of specs/ for each return.
-use Rattle.shapes.specs.Bodies.{ends-label, ends-key, ends-node, ends-line-short, ends-line, ends-unknown}
+use Rattle.shapes.specs.Bodies.{ends-label, ends-key, ends-node, ends-wide, ends-line-short, ends-line, ends-unknown}
 use borrow.Author.Needs.{needs}
 use Rattle.shapes.proofs.bodies.body_ends.Statement.{statement}
 use Rattle.shapes.proofs.bodies.body_ends.Tie as tie
@@ -20,9 +20,13 @@ returns-2 c = ends-key _ _ (search needs) (c .key-shape .ensures)
 returns-3 : tie.Need-returns-3
 returns-3 c = ends-node _ _ (search needs)
 
--- src/bodies.rt:99:13
+-- src/bodies.rt:103:9
 returns-4 : tie.Need-returns-4
-returns-4 c = ends-line-short _ _ (search needs) (search needs)
+returns-4 c = ends-wide _ _ (search needs)
+
+-- src/bodies.rt:99:13
+returns-5 : tie.Need-returns-5
+returns-5 c = ends-line-short _ _ (search needs) (search needs)
 
 -- src/bodies.rt:101:26
 sub-key-shape : tie.Need-sub-key-shape
@@ -41,12 +45,12 @@ key-shape-requires-2 : tie.Need-key-shape-requires-2
 key-shape-requires-2 c κs = search needs
 
 -- src/bodies.rt:101:9
-returns-5 : tie.Need-returns-5
-returns-5 c = ends-line _ _ (search needs) (search needs) (c .key-shape2 .ensures)
+returns-6 : tie.Need-returns-6
+returns-6 c = ends-line _ _ (search needs) (search needs) (c .key-shape2 .ensures)
 
 -- src/bodies.rt:85:1
-returns-6 : tie.Need-returns-6
-returns-6 c = ends-unknown _ _ (search needs) (search needs) (search needs) (search needs)
+returns-7 : tie.Need-returns-7
+returns-7 c = ends-unknown _ _ (search needs) (search needs) (search needs) (search needs) (search needs)
 
 pub body-ends-spec : {M : Type 1} → statement M
 body-ends-spec =
@@ -57,9 +61,10 @@ body-ends-spec =
     returns-2
     returns-3
     returns-4
+    returns-5
     sub-key-shape
     part-key-shape-start
     part-key-shape-end
     key-shape-requires-2
-    returns-5
-    returns-6)
+    returns-6
+    returns-7)

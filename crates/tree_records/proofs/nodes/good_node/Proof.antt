@@ -14,7 +14,7 @@ good-root-requires c κs = search needs
 
 -- src/nodes.rt:121:9
 returns : tie.Need-returns
-returns c = c .good-root .ensures ∙ node-first _ _ _ _ (c .before .if1 .taken)
+returns c = c .good-root .ensures ∙ node-first _ _ _ _ _ (c .before .if1 .taken)
 
 -- src/nodes.rt:123:5
 good-below-requires : tie.Need-good-below-requires
@@ -22,7 +22,7 @@ good-below-requires c κs = search needs
 
 -- src/nodes.rt:116:1
 returns-2 : tie.Need-returns-2
-returns-2 c = c .good-below .ensures ∙ node-later _ _ _ _ (c .before .if1 .left)
+returns-2 c = c .good-below .ensures ∙ node-later _ _ _ _ _ (c .before .if1 .left)
 
 pub good-node-spec : {M : Type 1} → statement M
 good-node-spec = tie.close (tie.spec good-root-requires returns good-below-requires returns-2)
