@@ -9,7 +9,7 @@ use lib.ListN.{getD}
 use borrow.Author.Tests.{eq-eqb, ne-eqb}
 use Rattle.meaning.specs.Limits.{textLabel, fillerAttribute, attributeClass}
 use Rattle.meaning.specs.Paths.{Class, element, attribute, text, isElement, isAttribute}
-use Rattle.tree_nodes.specs.FileTable.{classBy}
+use Rattle.shapes.specs.Classes.{classBy}
 
 module _ (classes : List ℕ) (n : ℕ) where
   pub text-no-attribute : n ≡ textLabel → isAttribute (classBy classes n) ≡ false
