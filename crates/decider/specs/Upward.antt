@@ -1,11 +1,11 @@
 -- Request 5: whether t steps to its parent u, as the code asks it.
-use Prim.Native.Nat.{ℕ, zero, suc, _+_, _-_, _≤_, _<_}
-use mathlib.Core.Path.{_≡_, refl, sym, _∙_, ap, ap₂, subst}
+use Prim.Native.Nat.{ℕ, suc, _+_, _-_, _≤_, _<_}
+use mathlib.Core.Path.{_≡_, sym, _∙_, ap, ap₂, subst}
 use mathlib.Core.Bool.{Bool, true, false, _&&_, not}
 use mathlib.Core.List.{List, [], _∷_, _++_}
 use native.Mathlib.Omega.{arith}
 use lib.Dec.{T, eqb, eqb→eq}
-use lib.ListN.{length, getD, length-append}
+use lib.ListN.{length, getD}
 use borrow.Author.Tests.{eq-eqb, ne-eqb, not-true, not-false}
 use Rattle.meaning.specs.Paths.{Class, isAttribute, singles}
 use Rattle.meaning.specs.Keys.{Key}
@@ -13,7 +13,6 @@ use Rattle.meaning.specs.Records.{keyIn}
 use Rattle.meaning.specs.Pattern.{qOf, tOf}
 use Rattle.theory_paths.specs.Bools.{and-left, and-right, both, eqb-of, of-true, of-false}
 use Rattle.theory_derive.specs.Spots.{chainOf, Ends, atT, aboveSingle}
-use Rattle.theory_derive.specs.Lines.{chain-length}
 
 getD-behind : (a b : List ℕ) (i : ℕ) → getD (a ++ b) (length a + i) 0 ≡ getD b i 0
 getD-behind [] b i = ap (λ (n : ℕ). getD b n 0) (let e : 0 + i ≡ i = omega arith in e)

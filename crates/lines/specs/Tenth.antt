@@ -1,16 +1,14 @@
 -- Rule 10, return by return.
-use Prim.Native.Nat.{ℕ, _+_, _-_}
+use Prim.Native.Nat.{ℕ, _-_}
 use mathlib.Core.Path.{_≡_, refl, sym, ap, _∙_}
-use mathlib.Core.Bool.{Bool, true, false, cond, _&&_, not}
+use mathlib.Core.Bool.{Bool, true, false, _&&_, not}
 use mathlib.Core.List.{List, [], _∷_}
 use native.Mathlib.Omega.{arith}
-use lib.Dec.{eqb}
 use lib.ListN.{length, getD, take, drop}
 use borrow.Author.Tests.{eq-eqb, ne-eqb, not-true, not-false}
 use borrow.Rule.Slice.PartAt.{part-to-end}
 use Rattle.meaning.specs.Paths.{Class, isAttribute, singles}
 use Rattle.meaning.specs.Keys.{Key}
-use Rattle.meaning.specs.Rules.{Line}
 use Rattle.meaning.specs.Records.{word, readLine, keyIn}
 use Rattle.theory_lines.specs.LineTest.{unused, followsTest}
 use Rattle.theory_lines.specs.EditionTest.{oneAttribute, tenthTest, followsInTest}

@@ -1,9 +1,9 @@
 -- Keys, keeping and implication: document 01, "Trees, paths and keys", and 001, Definition 1.
 use Prim.Native.Nat.{ℕ}
 use mathlib.Core.Logic.{_≢_}
+use mathlib.Core.Bool.{Bool}
 use mathlib.Core.List.{List}
 use Rattle.meaning.specs.Lists.{Each}
-use mathlib.Core.Bool.{Bool}
 use Rattle.meaning.specs.Paths.{Class, Label, Agrees, singles}
 use Rattle.meaning.specs.Trees.{Table, IsTree, Once, Reached, Equal}
 

@@ -107,7 +107,7 @@ fn write_step(
     write_on(out, at, lines, &line[..end], asked, cited, key, node, spot)
 }
 
-// The lines of a remembered step: "key number s stands at record labels + s".
+// The lines of a remembered step: key number s is record labels + s, where so many records stand before the keys.
 fn write_taken(
     out: &mut [u8],
     at: usize,
@@ -154,7 +154,7 @@ fn step_size(asked: &[u8], spot: usize) -> usize
     BRANCH_LINES
 }
 
-// Where the loop ended above t, its attribute has one rule of its own.
+// Where the loop ended above t, t is an attribute alone, and rule 10 has no premise either.
 fn first_rule(u: usize, end: usize) -> usize
     ensures { λ r. ⌜ r ≡ cond (ltb u end) 10 1 ⌝ }
 {
@@ -173,7 +173,7 @@ fn write_split(out: &mut [u8], line: &[u8], u: usize, asked: &[u8]) -> usize
     write_of_key(out, 0, rule, NO_NUMBER, &line[..u], &line[u..], asked)
 }
 
-// "K n is rule 1, the first line (written always ..)"
+// The first line, K u: its target is empty where u is t, else the attribute t alone.
 fn write_first(out: &mut [u8], asked: &[u8], u: usize) -> usize
     requires { ⌜ KeyBody (now asked) × (256 ≤ length (now out)) × (u ≤ tOf (keyIn (now asked))) ⌝ }
     ensures { λ r. ⌜ WroteLines (now (out .entry)) (now (out .exit)) 0 (firstLine (keyIn (now (asked .entry))) u ∷ []) r ⌝ }

@@ -9,7 +9,7 @@ use lib.Dec.{eqb, ltb, eqb·suc-zero}
 use lib.ListN.{length, getD, drop}
 use Rattle.meaning.specs.Paths.{Label}
 use Rattle.meaning.specs.Records.{word, recordLength, recordKind, recordBody}
-use Rattle.meaning.specs.Refusals.{Refusal, sound, firstRefusal, oversize, Walked, walk, whole, Profile, noProfile, profileTests, profileNext, hasEdition, behindEdition, firstEntry, editionRefusal, profileWalked, profileIn, profileRefusal}
+use Rattle.meaning.specs.Refusals.{Refusal, firstRefusal, oversize, Walked, walk, whole, Profile, noProfile, profileTests, profileNext, hasEdition, behindEdition, firstEntry, editionRefusal, profileWalked, profileIn, profileRefusal}
 use Rattle.meaning.specs.Operations.{secondIn, labelsIn, keysIn}
 use Rattle.shapes.specs.Classes.{Tabled}
 use Rattle.judged.specs.Answers.{refusalOf}
@@ -155,13 +155,13 @@ module _ (bytes : List ℕ) (small : length bytes ≤ 16384) {b : Bool} (told : 
     unfolding labelsIn profileIn
     plain-labels = ap (λ (w : Walked Profile). w .state .labels) plain-walk
 
-    pub profile-first : {judged : Judged} {classes : List ℕ} {before keys : ℕ} → EntriesSay 0 bytes judged classes before keys
-        → ProfileSays bytes judged classes false before keys
-    profile-first {judged} {classes} {before} {keys} s =
+    pub profile-first : {judged : Judged} {classes : List ℕ} {second : Bool} {before keys : ℕ} → EntriesSay 0 bytes judged classes before keys
+        → second ≡ false → ProfileSays bytes judged classes second before keys
+    profile-first {judged} {classes} {second} {before} {keys} s of =
         record {
           refusal = s .refusal ∙ is;
           tabled = λ q. unfold labelsIn profileIn in subst (λ (w : Walked Profile). Tabled (w .state .labels) classes) (sym plain-walk) (s .tabled (none q));
-          edition = λ q. unfold secondIn in sym plain;
+          edition = λ q. unfold secondIn in of ∙ sym plain;
           beforeKeys = λ q. s .beforeKeys (none q) ∙ ap₂ (λ (n : ℕ) (ls : List Label). n + length ls) (sym plain-first) (sym plain-labels);
           keyCount = λ q. unfold keysIn profileIn in subst (λ (w : Walked Profile). keys ≡ length (w .state .keys)) (sym plain-walk) (s .keyCount (none q));
         }
@@ -203,13 +203,13 @@ module _ (bytes : List ℕ) (small : length bytes ≤ 16384) {b : Bool} (told : 
     unfolding labelsIn profileIn
     second-labels e = ap (λ (w : Walked Profile). w .state .labels) (second-walk e)
 
-    pub profile-second : {k : ℕ} → k ≡ getD bytes 4 0 → k ≡ 2 → {rest : List ℕ} → rest ≡ drop 5 bytes → {judged : Judged} {classes : List ℕ} {before keys : ℕ}
-        → EntriesSay 1 rest judged classes before keys → ProfileSays bytes judged classes true before keys
-    profile-second {k} e two {rest} part {judged} {classes} {before} {keys} s =
+    pub profile-second : {k : ℕ} → k ≡ getD bytes 4 0 → k ≡ 2 → {rest : List ℕ} → rest ≡ drop 5 bytes → {judged : Judged} {classes : List ℕ} {newer : Bool} {before keys : ℕ}
+        → EntriesSay 1 rest judged classes before keys → newer ≡ true → ProfileSays bytes judged classes newer before keys
+    profile-second {k} e two {rest} part {judged} {classes} {newer} {before} {keys} s of =
         record {
           refusal = s .refusal ∙ is;
           tabled = λ q. unfold labelsIn profileIn in subst (λ (w : Walked Profile). Tabled (w .state .labels) classes) (sym (second-walk part)) (s .tabled (none q));
-          edition = λ q. unfold secondIn in sym second;
+          edition = λ q. unfold secondIn in of ∙ sym second;
           beforeKeys = λ q. s .beforeKeys (none q) ∙ ap₂ (λ (n : ℕ) (ls : List Label). n + length ls) (sym second-first) (sym (second-labels part));
           keyCount = λ q. unfold keysIn profileIn in subst (λ (w : Walked Profile). keys ≡ length (w .state .keys)) (sym (second-walk part)) (s .keyCount (none q));
         }

@@ -13,7 +13,7 @@ use shapes::fields::KIND_AT;
 use shapes::fields::wide;
 use shapes::fields::word;
 ghost use mathlib.Core.Path.{_≡_};
-ghost use mathlib.Core.Bool.{Bool, false};
+ghost use mathlib.Core.Bool.{false};
 ghost use Prim.Native.Nat.{_≤_};
 ghost use Rattle.meaning.specs.Refusals.{hasEdition};
 ghost use lib.ListN.{length};
@@ -62,16 +62,8 @@ pub fn read_keys(bytes: &[u8], classes: &[u8; 256]) -> KeysRead
     }
 }
 
-// What labels and keys come to: the refusal; where there is none, the class of each label (0: not declared), how many records stand before the keys,
-// and how many keys there are.
-pub struct EntriesRead {
-    pub judged: Judged,
-    pub classes: [u8; 256],
-    pub before: usize,
-    pub keys: usize,
-}
-
-// What a profile comes to: the same, and whether it is of edition 2.
+// What a profile comes to: the refusal; where there is none, the class of each label (0: not declared), whether it is of edition 2, how many records
+// stand before the keys, and how many keys there are.
 pub struct ProfileRead {
     pub judged: Judged,
     pub classes: [u8; 256],
@@ -90,10 +82,10 @@ fn is_label_record(rest: &[u8]) -> bool
     word(rest, KIND_AT) == LABEL_KIND
 }
 
-// "A profile is labels, numbers ascending, then keys.": the records of a profile within its size, from record number `first` on.
-fn read_entries(bytes: &[u8], first: usize) -> EntriesRead
+// "A profile is labels, numbers ascending, then keys.": the records of a profile of that edition within its size, from record number `first` on.
+fn read_entries(bytes: &[u8], first: usize, second: bool) -> ProfileRead
     requires { ⌜ (length (now bytes) ≤ 16384) × (first ≤ 1) ⌝ }
-    ensures { λ r. ⌜ EntriesSay first (now (bytes .entry)) (r .judged) (r .classes) (r .before) (r .keys) ⌝ }
+    ensures { λ r. ⌜ EntriesSay first (now (bytes .entry)) (r .judged) (r .classes) (r .before) (r .keys) × (r .second ≡ second) ⌝ }
 {
     let mut classes = [0u8; 256];
     let mut rest = bytes;
@@ -102,9 +94,10 @@ fn read_entries(bytes: &[u8], first: usize) -> EntriesRead
     while is_label_record(rest) {
         let end = word(rest, 0);
         if !good_label(bytes, labels, last, &rest[HEAD_BYTES..end]) {
-            return EntriesRead {
+            return ProfileRead {
                 judged: Judged::Refused(BAD_LABEL, first + labels),
                 classes,
+                second,
                 before: 0,
                 keys: 0,
             };
@@ -119,16 +112,18 @@ fn read_entries(bytes: &[u8], first: usize) -> EntriesRead
     let keys = found.keys;
     let number = found.number;
     if number != ACCEPTED {
-        return EntriesRead {
+        return ProfileRead {
             judged: Judged::Refused(number, before + keys),
             classes,
+            second,
             before,
             keys,
         };
     }
-    EntriesRead {
+    ProfileRead {
         judged: Judged::Sound,
         classes,
+        second,
         before,
         keys,
     }
@@ -158,18 +153,7 @@ pub fn read_profile(bytes: &[u8]) -> ProfileRead
         };
     }
     if !is_edition_record(bytes) {
-        let read = read_entries(bytes, 0);
-        let judged = read.judged;
-        let classes = read.classes;
-        let before = read.before;
-        let keys = read.keys;
-        return ProfileRead {
-            judged,
-            classes,
-            second: false,
-            before,
-            keys,
-        };
+        return read_entries(bytes, 0, false);
     }
     if wide(bytes[EDITION_IN_RECORD]) != SECOND_EDITION {
         return ProfileRead {
@@ -180,16 +164,5 @@ pub fn read_profile(bytes: &[u8]) -> ProfileRead
             keys: 0,
         };
     }
-    let read = read_entries(&bytes[EDITION_BYTES..], 1);
-    let judged = read.judged;
-    let classes = read.classes;
-    let before = read.before;
-    let keys = read.keys;
-    ProfileRead {
-        judged,
-        classes,
-        second: true,
-        before,
-        keys,
-    }
+    read_entries(&bytes[EDITION_BYTES..], 1, true)
 }

@@ -1,12 +1,10 @@
 -- Request 5: the tree that is written has each single label at most once under a node, if the pattern has and what hangs under u below it is not single.
-use Prim.Native.Nat.{ℕ, suc, _≤_, _<_}
+use Prim.Native.Nat.{ℕ, _≤_, _<_}
 use mathlib.Core.Path.{_≡_, refl, sym, ap, subst, _∙_}
-use mathlib.Core.Logic.{_⊎_, inl, inr}
 use mathlib.Core.Bool.{Bool, true, false}
 use native.Mathlib.Omega.{arith}
 use native.Mathlib.Decide.{decLt}
 use lib.Dec.{T}
-use Rattle.meaning.specs.Limits.{fillerAttribute}
 use Rattle.meaning.specs.Paths.{Class}
 use Rattle.meaning.specs.Trees.{Table, Child, Once}
 use Rattle.theory_counter.specs.Doubled.{Drawn, Stands, Spot, Written}

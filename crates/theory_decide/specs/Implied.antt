@@ -15,7 +15,6 @@ use Rattle.meaning.specs.Rules.{Line, Accepted}
 use Rattle.meaning.specs.Records.{lineBytes}
 use Rattle.meaning.specs.Refusals
 use Rattle.meaning.specs.Refusals.{Refusal, Walked, firstRefusal, oversize, sound, profileRefusal, questionRefusal, questionIn, proofWalked}
-use Rattle.meaning.specs.Pattern.{tOf}
 use Rattle.meaning.specs.Operations
 use Rattle.meaning.specs.Operations.{secondIn, singleIn, labelsIn, keysIn, Unless, choose, ChecksProof, ProofJudged, proved, plain, filled, accepted, implied, ProofWritten}
 use Rattle.theory_paths.specs.Good.{GoodLabels, GoodKey}

@@ -5,11 +5,11 @@ use mathlib.Core.Bool.{Bool, true, false, cond}
 use mathlib.Core.List.{List, [], _∷_, _++_, append-nil}
 use mathlib.Core.Option.{Option, some, Option·none-ne-some, Option·some-injective}
 use native.Mathlib.Omega.{arith}
-use lib.Dec.{T, leb, ltb}
+use lib.Dec.{T, leb}
 use lib.ListN.{length, take, drop, getD, getElem?, length-append, length-map, drop-of-length-le}
 use lib.Seq.{take-append-seam, drop-append-seam, drop-cons}
 use borrow.Author.Tests.{leb-true, leb-false, lt-ltb, le-ltb}
-use Rattle.meaning.specs.Limits.{inProfile, inProof, noNumber}
+use Rattle.meaning.specs.Limits.{inProfile, inProof}
 use Rattle.meaning.specs.Lists.{Each, also}
 use Rattle.meaning.specs.Paths.{Label, norm}
 use Rattle.meaning.specs.Keys.{Key}

@@ -6,28 +6,26 @@ use mathlib.Core.List.{List, List·Memᴰ, List·Memᴰ·head, List·Memᴰ·tai
 use mathlib.Core.Option.{some}
 use native.Mathlib.Omega.{arith}
 use lib.Dec.{T}
-use lib.ListN.{length, take, getD, getElem?, length-take, List·getD-append}
-use lib.Seq.{getD-take}
+use lib.ListN.{length, getD, getElem?, List·getD-append}
 use borrow.Author.Tests.{ne-eqb}
 use mathlib.Core.Bool.{Bool, cond}
 use Rattle.meaning.specs.Limits.{inProfile}
 use Rattle.meaning.specs.Lists.{Each}
-use Rattle.meaning.specs.Lists.{every}
 use Rattle.meaning.specs.Paths.{Label, classOf, singles}
 use Rattle.meaning.specs.Trees.{Child}
 use Rattle.meaning.specs.Keys.{Key}
 use Rattle.meaning.specs.Pattern.{drawn, pattern, tOf, qOf, Step, toChild, toParent, byKey, Leads, arrived, onward, IsU}
-use Rattle.theory_paths.specs.Bools.{Each-at, every-each}
-use Rattle.theory_paths.specs.Valid.{mayStep}
-use Rattle.theory_derive.specs.Singles.{single-clear, single-symbol, single-stays}
+use Rattle.theory_paths.specs.Bools.{Each-at}
 use Rattle.theory_paths.specs.Good.{GoodLabels, GoodKey, paths-some}
-use Rattle.theory_derive.specs.Logic.{less-or, getD-mem}
+use Rattle.theory_derive.specs.Logic.{less-or}
 use Rattle.theory_derive.specs.Spots.{Taken, chainOf, branchOf, lineOf, Ends, atT, aboveSingle, Fires, Chain, begun, taken}
-use Rattle.theory_derive.specs.Lines.{chain-length, line-length, before-steps}
+use Rattle.theory_derive.specs.Lines.{chain-length, line-length}
 use Rattle.theory_derive.specs.Numbers.{spotNode, spot-chain, spot-branch}
 use Rattle.theory_derive.specs.Places.{IsSpot, Place, spot-label, spot-child, spot-parent, spot-above, place-of, spot-once}
 use Rattle.theory_derive.specs.Steps.{OnLines, fires-step, on-lines}
 use Rattle.theory_derive.specs.Accept.{turns}
+use Rattle.theory_derive.specs.Singles.{single-clear, single-symbol}
+use Rattle.theory_derive.specs.PatternOnce.{single-end}
 
 -- a member of a list has a number there
 pub record Numbered {A : Type 0} (xs : List A) (x : A) : Type 0 where
@@ -93,29 +91,16 @@ module _ (second : Bool) (labels : List Label) (gl : GoodLabels labels) (keys : 
       spot-deep : (j k : ℕ) → tOf asked < k → tOf asked < spotNode asked j k
       spot-deep j k l = rw (spot-branch asked j k l) (omega arith)
 
-  -- a single label has no node below it, so its node stands last on its line; on the chain above t there is none
+  -- a single label stands last on its line, so on the chain there is none above t
   single-last : (u j : ℕ) → u < tOf asked → IsSpot asked j (suc u) → T (single (pattern asked .label (spotNode asked j (suc u))))
       → (suc u ≡ tOf asked) × T (single (getD (chainOf asked) u 0))
   unfolding lineOf
   single-last u j h s t =
       let line = lineOf asked j in
-      let e = spot-label asked j u s in
       let same : getD line u 0 ≡ getD (chainOf asked) u 0 = List·getD-append (chainOf asked) (branchOf asked j) 0 u (omega (arith, chain-length asked)) in
-      let d = single-symbol second labels gl (getD line u 0) (subst (λ (k : ℕ). T (single k)) e t) in
-      (last (less-or (suc u) (tOf asked)), subst (λ (k : ℕ). T (single k)) same d)
-    where
-      steps-at : T (every (mayStep (classOf labels)) (take (suc u) (lineOf asked j))) → T (mayStep (classOf labels) (getD (lineOf asked j) u 0))
-      steps-at h =
-          subst (λ (k : ℕ). T (mayStep (classOf labels) k)) (getD-take (suc u) (lineOf asked j) u 0 (omega arith))
-          (every-each (mayStep (classOf labels)) (take (suc u) (lineOf asked j)) h (getD (take (suc u) (lineOf asked j)) u 0)
-          (getD-mem (take (suc u) (lineOf asked j)) u 0 (omega (arith, length-take (suc u) (lineOf asked j), s .onLine))))
-
-      last : (suc u < tOf asked) ⊎ (tOf asked ≤ suc u) → suc u ≡ tOf asked
-      last (inr l) = omega arith
-      last (inl l) =
-          absurd
-          (single-stays second labels gl (getD (lineOf asked j) u 0) (subst (λ (k : ℕ). T (single k)) (spot-label asked j u s) t)
-          (steps-at (before-steps labels asked g (suc u) j (s .isBranch) (omega (arith, line-length asked j)))))
+      let d = single-symbol second labels gl (getD line u 0) (subst (λ (k : ℕ). T (single k)) (spot-label asked j u s) t) in
+      let end = single-end second labels gl asked g j u s t in
+      (omega (arith, line-length asked j), subst (λ (k : ℕ). T (single k)) same d)
 
   module _ (u : ℕ) (un : u < tOf asked) (final : (t : Taken) → Fires keys asked t → u < t .spot → t .node ≤ u → ⊥)
       (above : suc u ≡ tOf asked → T (single (getD (chainOf asked) u 0)) → ⊥) where

@@ -1,16 +1,16 @@
 -- In the pattern of an accepted question each single label stands at most once under a node (request 5): only t has several children, and two key
 -- paths of one attribute label would be the same.
-use Prim.Native.Nat.{ℕ, zero, suc, _+_, _≤_, _<_}
+use Prim.Native.Nat.{ℕ, zero, suc, _≤_, _<_}
 use mathlib.Core.Path.{_≡_, refl, sym, ap, subst, _∙_}
-use mathlib.Core.Logic.{_⊎_, inl, inr, ⊎-elim}
+use mathlib.Core.Logic.{_⊎_, inl, inr}
 use mathlib.Core.Bool.{Bool, _&&_, _||_}
 use mathlib.Core.List.{List, [], _∷_, _++_}
 use native.Mathlib.Omega.{arith}
 use lib.Dec.{T, ltb, eqb, eqb→eq, ltb→lt, lt→ltb}
-use lib.ListN.{length, getD, take, drop, length-take, length-append, drop-of-length-le}
-use lib.Seq.{getD-take, drop-cons, getD-drop, drop-append-seam}
+use lib.ListN.{length, getD, take, drop, length-take, drop-of-length-le}
+use lib.Seq.{getD-take, drop-cons, drop-append-seam}
 use Rattle.meaning.specs.Limits.{inProfile}
-use Rattle.meaning.specs.Lists.{every, lower, before, ascending}
+use Rattle.meaning.specs.Lists.{lower, before, ascending}
 use Rattle.meaning.specs.Paths.{Label, classOf, singles}
 use Rattle.meaning.specs.Trees.{Child, Once}
 use Rattle.meaning.specs.Keys.{Key}
@@ -21,7 +21,7 @@ use Rattle.theory_paths.specs.Good.{GoodLabels, GoodKey, paths-some, paths-asce
 use Rattle.theory_derive.specs.Logic.{less-or, getD-mem}
 use Rattle.theory_derive.specs.Spots.{chainOf, branchOf, lineOf}
 use Rattle.theory_derive.specs.Sets.{before-itself}
-use Rattle.theory_derive.specs.Lines.{chain-length, line-length, before-steps}
+use Rattle.theory_derive.specs.Lines.{chain-length, before-steps}
 use Rattle.theory_derive.specs.Numbers.{spotNode, spot-chain}
 use Rattle.theory_derive.specs.Places.{IsSpot, Place, spot-label, spot-parent, spot-above, place-of, spot-once, spot-shared}
 use Rattle.theory_derive.specs.Singles.{single-stays, single-drawn}

@@ -1,11 +1,10 @@
 -- The single labels of an accepted profile (request 5): attributes, so neither the any-path nor its filler, and nothing steps on from them.
 use Prim.Native.Nat.{ℕ}
-use mathlib.Core.Path.{_≡_, refl, sym, subst, ap}
-use mathlib.Core.Bool.{Bool, true, false, cond, _&&_, _||_}
+use mathlib.Core.Path.{_≡_, refl, subst}
+use mathlib.Core.Bool.{Bool, true, false, cond}
 use native.Mathlib.Omega.{arith}
 use mathlib.Core.List.{List}
 use lib.Dec.{T, eqb, eqb→eq}
-use borrow.Author.Tests.{eqb-true}
 use Rattle.meaning.specs.Paths.{Class, element, attribute, text, isElement, isAttribute, Label, classOf, singles}
 use Rattle.meaning.specs.Pattern.{drawn}
 use Rattle.theory_paths.specs.Bools.{and-right, or-cases}

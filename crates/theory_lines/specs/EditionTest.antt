@@ -1,7 +1,6 @@
 -- Whether a line follows in an edition: the test of both editions, and beside it that of rule 10.
-use Prim.Native.Nat.{ℕ, zero, suc}
-use mathlib.Core.Path.{_≡_, refl, sym, _∙_, ap, subst}
-use mathlib.Core.Logic.{_⊎_, inl, inr, ⊎-elim}
+use Prim.Native.Nat.{ℕ}
+use mathlib.Core.Path.{_≡_, refl, sym, subst}
 use mathlib.Core.Bool.{Bool, true, false, cond, _&&_}
 use mathlib.Core.List.{List, [], _∷_}
 use lib.Dec.{T, eqb, eqb→eq}
@@ -10,7 +9,7 @@ use Rattle.meaning.specs.Limits.{KeyLimits, noNumber}
 use Rattle.meaning.specs.Lists.{Each}
 use Rattle.meaning.specs.Paths.{Label}
 use Rattle.meaning.specs.Keys.{Key}
-use Rattle.meaning.specs.Rules.{Line, OneAttribute, Follows, rule0, rule1, rule2, rule3, rule4, rule5, rule6, rule7, rule8, rule9, FollowsIn, shared, rule10}
+use Rattle.meaning.specs.Rules.{Line, OneAttribute, FollowsIn, shared, rule10}
 use Rattle.theory_paths.specs.Bools.{and-left, and-right, both, eqb-of}
 use Rattle.theory_paths.specs.Good.{GoodLabels, GoodKey}
 use Rattle.theory_lines.specs.LineTest.{unused, ruleTest, followsTest, test-follows, follows-test}

@@ -4,17 +4,16 @@ use mathlib.Core.Path.{_≡_, refl, sym, subst, ap, _∙_}
 use mathlib.Core.Bool.{Bool, true, false, cond, _&&_, _||_, not}
 use mathlib.Core.List.{List, [], _∷_, _++_, map, flatten, append-assoc, append-nil}
 use native.Mathlib.Omega.{arith}
-use native.Mathlib.Nat.{zero-add}
 use borrow.Author.Tests.{le-leb, le-ltb, leb-true, ne-eqb}
 use lib.Dec.{leb, ltb, eqb}
-use lib.ListN.{length, drop, length-append}
+use lib.ListN.{length, getD, drop, length-append}
 use lib.Seq.{append-snoc}
 use Rattle.meaning.specs.Limits.{inProfile}
 use Rattle.meaning.specs.Lists.{Each, end, also, every, any, same}
 use Rattle.meaning.specs.Paths.{Label}
 use Rattle.meaning.specs.Keys.{Key}
 use Rattle.meaning.specs.Records.{recordLength, recordKind, recordBody, recordBytes, bodyEnds, readLabel, labelBytes, keyIn, keyBody, keyBytes}
-use Rattle.meaning.specs.Refusals.{Refusal, sound, firstRefusal, oversize, Walked, firstOf, walk, isLetter, inName, isName, goodLabel, keyTests, Profile, noProfile, profileTests, profileNext, whole, hasEdition, behindEdition, firstEntry, profileWalked, profileIn, profileRefusal}
+use Rattle.meaning.specs.Refusals.{Refusal, sound, firstRefusal, oversize, Walked, firstOf, walk, isLetter, inName, isName, goodLabel, keyTests, Profile, noProfile, profileTests, profileNext, whole, hasEdition, behindEdition, firstEntry, editionRefusal, profileWalked, profileIn, profileRefusal}
 use Rattle.theory_paths.specs.Good.{GoodKey, tests-of-good}
 use Rattle.theory_records.specs.Tests.{both, never}
 use Rattle.theory_records.specs.Walks.{walk-end}
@@ -200,6 +199,17 @@ profile-walked-written true p f =
     ap (λ (k : ℕ). drop k all) (written-length 6 (2 ∷ []) (entryBytes p) (omega arith)) ∙ written-rest 6 (2 ∷ []) (entryBytes p) in
     let w = entries-walked 1 p (f .labels) (f .keys) (f .few) in
     (e, rw (e, b) (ap (λ (x : Walked Profile). x .number) w), rw (e, b) (ap (λ (x : Walked Profile). x .state) w))
+
+pub profile-written-sound : (second : Bool) (p : Profile) → ProfileFits second p → profileRefusal (profileBytes second p) ≡ sound
+unfolding profileRefusal firstRefusal oversize editionRefusal
+profile-written-sound false p f =
+    let w = profile-walked-written false p f in
+    rw (le-ltb 16384 (length (profileBytes false p)) (f .size), w .0, w .1)
+profile-written-sound true p f =
+    let w = profile-walked-written true p f in
+    let byte : getD (recordBody (profileBytes true p)) 0 0 ≡ 2 =
+    unfold profileBytes editionBytes in ap (λ (l : List ℕ). getD l 0 0) (written-body 6 (2 ∷ []) (entryBytes p) (omega arith)) in
+    rw (le-ltb 16384 (length (profileBytes true p)) (f .size), w .0, byte, w .1)
 
 pub profile-in-written : (second : Bool) (p : Profile) → ProfileFits second p → profileIn (profileBytes second p) ≡ p
 unfolding profileIn

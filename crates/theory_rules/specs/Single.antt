@@ -1,13 +1,13 @@
 -- Rule 10 (request 5): where a label stands at most once under an element, a key that targets it alone is kept.
-use Prim.Native.Nat.{ℕ, zero, suc}
+use Prim.Native.Nat.{ℕ}
 use mathlib.Core.Path.{_≡_, refl, sym, _∙_, ap, subst}
-use mathlib.Core.Logic.{_⊎_, inl, inr, ⊎-elim}
-use mathlib.Core.Bool.{Bool, true, false, cond, _&&_, _||_, not}
+use mathlib.Core.Logic.{_⊎_, inl, inr}
+use mathlib.Core.Bool.{Bool, true, false, _||_, not}
 use mathlib.Core.List.{List, [], _∷_}
 use native.Mathlib.Omega.{arith}
 use lib.Dec.{T, eqb, eqb→eq}
-use Rattle.meaning.specs.Limits.{rootLabel, fillerAttribute}
-use Rattle.meaning.specs.Paths.{Class, element, attribute, text, isAttribute, Label, declared, declaredClass, classOf, isLabel, Agrees, singles, simple}
+use Rattle.meaning.specs.Limits.{rootLabel}
+use Rattle.meaning.specs.Paths.{Class, isAttribute, Label, declared, classOf, isLabel, Agrees, singles, simple}
 use Rattle.meaning.specs.Trees.{Table, Child, Once, Down, here, step, Reached}
 use Rattle.meaning.specs.Keys.{Key, Keeps}
 use Rattle.meaning.specs.Rules.{OneAttribute}

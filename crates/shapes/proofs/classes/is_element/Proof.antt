@@ -1,5 +1,5 @@
 use Rattle.shapes.specs.ClassTests.{text-no-element, attribute-no-element, other-element}
-use mathlib.Core.Path.{sym, _∙_, ap}
+use mathlib.Core.Path.{sym, _∙_}
 use borrow.Author.Needs.{needs}
 use Rattle.shapes.proofs.classes.is_element.Statement.{statement}
 use Rattle.shapes.proofs.classes.is_element.Tie as tie
