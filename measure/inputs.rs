@@ -1,7 +1,7 @@
 //! Profiles, paths, proofs, and questions that take many steps.
 use crate::reference::paths::{Classes, Path, ANY_PATH, FIRST_DECLARED, LAST_DECLARED};
 use crate::reference::records::{key_record, write_profile, write_proof, Key, Label, Line, Profile};
-use crate::reference::records::{BARE_PATH_SYMBOLS, KEY_SIZES, LINE_SIZES, NONE, PROFILE_KEYS, PROOF_LINES};
+use crate::reference::records::{BARE_PATH_SYMBOLS, FIRST_EDITION, KEY_SIZES, LINE_SIZES, NONE, PROFILE_KEYS, PROOF_LINES};
 
 const ELEMENT: u8 = 1;
 const EPSILON: u8 = 1;
@@ -9,7 +9,7 @@ const SUPERKEY: u8 = 3;
 const CONTEXT_PATH: u8 = 5;
 
 fn profile(labels: Vec<Label>, keys: Vec<Key>) -> Vec<u8> {
-    write_profile(&Profile { labels, keys, classes: Classes::none() })
+    write_profile(&Profile { edition: FIRST_EDITION, labels, keys, classes: Classes::none() })
 }
 
 fn simple_key(context: &[u8], target: &[u8], path: &[u8]) -> Key {

@@ -1,4 +1,4 @@
-//! The fixed inputs that the issues 4 to 7 ask for, each with the answer that document 01 gives, written by hand.
+//! The fixed inputs that the issues 4 to 7 and 19 ask for, each with the answer that document 01 gives, written by hand.
 //!
 //! fixed_cases cases            the stream that the program `replay` reads (reference/stream.rs has the format)
 //! fixed_cases compare [CASE]   reads replay's answers on standard input and holds each to its expectation; CASE, counted from 1,
@@ -16,6 +16,9 @@ mod fixed;
 use fixed::expectations::{can_fail, changed, meets, Fixed};
 use reference::stream::{answer, write_case, Answer, OPERATIONS};
 use std::io::{Read, Write};
+
+/// The numbers of the issues are below this.
+const ISSUES: usize = 20;
 
 /// Cases, differences and cases that no wrong expectation fails, by issue.
 #[derive(Default, Clone, Copy)]
@@ -45,7 +48,7 @@ fn hold(fixed: &Fixed, found: Option<&Answer>, count: &mut Count) {
 }
 
 /// Prints the counts, and says whether every case was right and able to be wrong.
-fn sum_up(counts: &[Count; 8]) -> bool {
+fn sum_up(counts: &[Count; ISSUES]) -> bool {
     let mut whole = Count::default();
     for (issue, count) in counts.iter().enumerate().filter(|(_, count)| count.cases > 0) {
         println!("issue {}: {} cases, {} differ", issue, count.cases, count.differing);
@@ -58,7 +61,7 @@ fn sum_up(counts: &[Count; 8]) -> bool {
 }
 
 fn hold_reference(all: &[Fixed]) -> bool {
-    let mut counts = [Count::default(); 8];
+    let mut counts = [Count::default(); ISSUES];
     for fixed in all {
         hold(fixed, Some(&answer(&fixed.case)), &mut counts[fixed.issue as usize]);
     }
@@ -80,7 +83,7 @@ fn next_answer(rest: &mut &[u8]) -> Option<Answer> {
 }
 
 fn compare(all: &[Fixed], stream: &[u8]) -> bool {
-    let mut counts = [Count::default(); 8];
+    let mut counts = [Count::default(); ISSUES];
     let mut rest = stream;
     for fixed in all {
         // Where the stream breaks off, no later case has an answer either.

@@ -32,8 +32,9 @@ line='
 # the main job: every row of 01 with its verdict, all evidence accepted
 "$front" >"$work/table" || fail "the bundled examples do not agree with 01: $(cat "$work/table")"
 rows=$(grep -c ' accepted ' "$work/table") || true
-[ "$rows" -eq 12 ] || fail "$rows rows, not 12"
+[ "$rows" -eq 13 ] || fail "$rows rows, not 13"
 grep -q '^b    not implied  132 ' "$work/table" || fail "row b is not there"
+grep -q '^m2   implied      30 ' "$work/table" || fail "row m in edition 2 is not there"
 # a wrong expectation is seen: the same examples with row a turned round
 cp -R "$root/bench" "$front" "$work"
 mkdir "$work/target"
@@ -68,6 +69,13 @@ expect 2 "refused 12 1 0$line" checker tree "$bench/a.profile" "$bench/b.questio
 expect 2 "refused 13 3 0$line" checker tree "$bench/b.profile" "$bench/a.question" "$work/out"
 expect 2 "refused 10 3 8$line" checker proof "$bench/a.profile" "$bench/b.question" "$work/proof"
 expect 2 "refused 10 3 0$line" checker proof "$bench/a.profile" "$bench/a.question" "$work/no_such_file"
+# m in both editions: the tree of edition 1 has an attribute twice, the proof of edition 2 uses rule 10
+expect 1 "not implied 66$line" decide "$bench/m.profile" "$bench/m.question" "$work/m"
+expect 0 "accepted$line" checker tree "$bench/m.profile" "$bench/m.question" "$work/m"
+expect 2 "refused 16 3 5$line" checker tree "$bench/m2.profile" "$bench/m2.question" "$work/m"
+expect 0 "implied 30$line" decide "$bench/m2.profile" "$bench/m2.question" "$work/m2"
+expect 0 "accepted$line" checker proof "$bench/m2.profile" "$bench/m2.question" "$work/m2"
+expect 2 "refused 9 3 0$line" checker proof "$bench/m.profile" "$bench/m.question" "$work/m2"
 expect 2 "refused 8 3 0$line" checker tree "$bench/a.profile" "$bench/a.question" "$work/no_such_file"
 expect 0 "rewritten 69$line" profile rewrite "$bench/b.profile" "$work/rewritten"
 cmp -s "$bench/b.profile" "$work/rewritten" || fail "rewriting changed the profile"

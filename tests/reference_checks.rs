@@ -1,4 +1,4 @@
-//! Fixed checks of the reference: the examples a to m, the tree and listing of b, every limit, the
+//! Fixed checks of the reference: the examples a to m and m in edition 2, the tree and listing of b, every limit, the
 //! readings of docs/DECISIONS.md and the order of refusals.
 //!
 //! rustc -O --edition 2021 -o target/tests/reference_checks tests/reference_checks.rs
@@ -35,8 +35,8 @@ impl Tally {
 }
 
 fn examples(tally: &mut Tally) {
-    for (row, keys, asked, implied) in ROWS.iter() {
-        let (profile, question) = (bench_profile(keys), question(asked));
+    for (row, edition, keys, asked, implied) in ROWS.iter() {
+        let (profile, question) = (bench_profile_of(*edition, keys), question(asked));
         let name = format!("row {}", row);
         match decide(&profile, &question, ROOM) {
             Ok(Decision::Implied(proof)) => {
@@ -50,10 +50,10 @@ fn examples(tally: &mut Tally) {
             Err(refusal) => tally.same(&name, Some(refusal), None),
         }
     }
-    let (profile, asked) = (bench_profile(ROWS[1].1), question(ROWS[1].2));
+    let (profile, asked) = (bench_profile(ROWS[1].2), question(ROWS[1].3));
     if let Ok(Decision::NotImplied(tree)) = decide(&profile, &asked, ROOM) {
         tally.same("bytes of b", tree.len(), 132);
-        let nodes = read_tree(&tree, &read_profile(&profile).unwrap().classes).unwrap();
+        let nodes = read_tree(&tree, &read_profile(&profile).unwrap()).unwrap();
         let narrow = write_tree(&nodes, NODE_KIND);
         tally.same("listing of b from kind 3", list(&profile, &narrow, 0, ROOM), Ok(LISTING_OF_B.as_bytes().to_vec()));
         tally.same("listing of b", list(&profile, &tree, 0, ROOM), Ok(LISTING_OF_B.as_bytes().to_vec()));
@@ -140,7 +140,7 @@ fn enumerated(tally: &mut Tally) {
 
 /// The proof that is written for c holds a line of rule 8.
 fn proof_of_c_needs_rule_8() -> bool {
-    let (profile, asked) = (bench_profile(ROWS[2].1), question(ROWS[2].2));
+    let (profile, asked) = (bench_profile(ROWS[2].2), question(ROWS[2].3));
     match decide(&profile, &asked, ROOM) {
         Ok(Decision::Implied(proof)) => {
             let classes = read_profile(&profile).unwrap().classes;
@@ -412,6 +412,7 @@ fn main() {
     limits(&mut tally);
     big_inputs(&mut tally);
     refusals::order(&mut tally);
+    refusals::editions(&mut tally);
     equality(&mut tally);
     println!("reference checks: {} done, {} failed", tally.done, tally.failed);
     if tally.failed > 0 {

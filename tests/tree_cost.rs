@@ -6,9 +6,9 @@
 //! Labels are those of the bench examples. Each verdict is derived by hand beside its case.
 mod reference;
 
-use reference::examples::{bench_profile, question};
-use reference::paths::{ROOT, TEXT};
-use reference::records::{write_tree, Node, NODE_KIND, NONE, TREE_NODES};
+use reference::examples::{bench_profile_of, question};
+use reference::paths::{FILLER_ATTRIBUTE, ROOT, TEXT};
+use reference::records::{write_tree, Node, FIRST_EDITION, NODE_KIND, NONE, SECOND_EDITION, TREE_NODES};
 use std::fs;
 use std::path::Path;
 use std::process::{Child, Command, Stdio};
@@ -170,6 +170,22 @@ fn fat_twins(nodes: usize) -> Table {
     table
 }
 
+/// Elements, then an @id of each, a @seq of each and a filler attribute of each: in edition 2 a repeated name is looked for from far behind.
+fn attributes_apart(nodes: usize) -> Table {
+    let mut table = Table::new();
+    let elements = (nodes - 1) / 4;
+    for _ in 0..elements {
+        table.element(0, PORT);
+    }
+    for name in [ID, SEQ, FILLER_ATTRIBUTE] {
+        for element in 1..=elements {
+            let different = table.nodes.len();
+            table.add(element, name, different);
+        }
+    }
+    table
+}
+
 const TEXTS: usize = 5;
 
 /// Chains that differ at their ends in the order of the texts alone: nodes with equally many nodes below them and, order apart, the same ones.
@@ -232,6 +248,7 @@ fn segment_keys() -> Vec<String> {
 /// One tree tested against one key by `profile keep`, or against a whole profile and then the question by `checker tree`.
 struct Case {
     name: &'static str,
+    edition: u8,
     profile: Vec<String>,
     question: &'static str,
     tree: fn(usize) -> Table,
@@ -245,7 +262,7 @@ const LONG_PATHS: &str =
     "(_*,(_*,{@id,run.run.run.run.run.run.@id,run.run.run.run.run.run.run.@id,run.run.run.run.run.run.run.@seq}))";
 
 fn keep(name: &'static str, question: &'static str, tree: fn(usize) -> Table, wanted: &'static str) -> Case {
-    Case { name, profile: Vec::new(), question, tree, wanted }
+    Case { name, edition: FIRST_EDITION, profile: Vec::new(), question, tree, wanted }
 }
 
 fn cases() -> Vec<Case> {
@@ -280,9 +297,12 @@ fn cases() -> Vec<Case> {
         keep("twin chains over one fat element", "(e,(run,{e}))", fat_twin_chains, "broken"),
         keep("two fat elements", "(e,(run,{e}))", fat_twins, "broken"),
     ];
+    // No two attributes have one value, so no two ports are equal.
+    cases.push(Case { edition: SECOND_EDITION, ..keep("attributes apart, edition 2", EVERYWHERE, attributes_apart, "kept") });
     // The segment keeps all 64, and breaks the question: @seq 0 stands in two ports.
     cases.push(Case {
         name: "segment, 64 keys",
+        edition: FIRST_EDITION,
         profile: segment_keys(),
         question: "(e,(port.frame,{@seq}))",
         tree: segment,
@@ -308,7 +328,7 @@ fn run(case: &Case, nodes: usize, program: &str, folder: &Path) -> f64 {
     assert!(table.nodes.len() <= TREE_NODES, "{}: too many nodes", case.name);
     let keys: Vec<&str> = case.profile.iter().map(String::as_str).collect();
     let put = |file: &str, bytes: &[u8]| fs::write(folder.join(file), bytes).expect("the folder takes files");
-    put("profile", &bench_profile(&keys));
+    put("profile", &bench_profile_of(case.edition, &keys));
     put("question", &question(case.question));
     put("tree", &write_tree(&table.nodes, NODE_KIND));
     let command = if keys.is_empty() { ["profile", "keep"] } else { ["checker", "tree"] };

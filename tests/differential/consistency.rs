@@ -42,8 +42,8 @@ fn trees_and_lines(random: &mut Random, asked: &Asked) -> Result<(), String> {
     }
     let size = 1 + random.below(SMALL_TREE);
     let kind = node_kind(random);
-    let nodes = tree(random, &asked.world, size, kind);
-    if read_tree(&write_tree(&nodes, kind), &asked.profile.classes) != Ok(nodes.clone()) {
+    let nodes = tree_of_edition(random, &asked.world, size, kind);
+    if read_tree(&write_tree(&nodes, kind), &asked.profile) != Ok(nodes.clone()) {
         return Err("a written tree is not read".to_string());
     }
     let table = Tree::new(&nodes, &asked.profile.classes);

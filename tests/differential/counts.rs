@@ -35,7 +35,7 @@ const REFUSALS: [(&[u8], u32, &[u32]); 9] = [
     (&[KEEP, CHECK_PROOF, CHECK_TREE, DECIDE], QUESTION, &[1, 2, 4, 5, 6]),
     (&[INCLUDE], QUESTION, &[4, 6]),
     (&[INCLUDE], TREE_OR_PROOF, &[4, 6]),
-    (&[KEEP, CHECK_TREE, LIST], TREE_OR_PROOF, &[1, 2, 7, 8]),
+    (&[KEEP, CHECK_TREE, LIST], TREE_OR_PROOF, &[1, 2, 7, 8, 16]),
     (&[CHECK_PROOF], TREE_OR_PROOF, &[1, 2, 4, 5, 6, 7, 9, 10]),
     (&[CHECK_TREE], PROFILE, &[12]),
     (&[CHECK_TREE], TREE_OR_PROOF, &[13]),

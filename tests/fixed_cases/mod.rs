@@ -8,6 +8,7 @@ mod counterexamples;
 mod cuts;
 mod decisions;
 mod drawn;
+mod editions;
 mod lines;
 mod listings;
 mod nodes;
@@ -22,11 +23,12 @@ use expectations::{Cases, Fixed};
 /// All cases; each name is used once, so that a difference names its case.
 pub fn all() -> Vec<Fixed> {
     let mut found = Vec::new();
-    let issues: [(u8, &[fn(&mut Cases)]); 4] = [
+    let issues: [(u8, &[fn(&mut Cases)]); 5] = [
         (4, &[profiles::put, order::put, nodes::put, lines::put, bodies_and_paths::put, cuts::put]),
         (5, &[trees::put, listings::put]),
         (6, &[rules::put, proofs::put, counterexamples::put]),
         (7, &[decisions::put, chains::put]),
+        (19, &[editions::put]),
     ];
     for (issue, parts) in issues.iter() {
         let mut cases = Cases::of(*issue);

@@ -145,7 +145,7 @@ fn unused_fields(cases: &mut Cases) {
     }
 }
 
-/// 01 has the rules 0 to 9.
+/// 01 has the rules 0 to 9; 02's rule 10 is in editions.rs.
 fn unknown_rules(cases: &mut Cases) {
     for rule in [10, 11, 128, 255] {
         for fields in ["- -", "0 -", "0 0"] {

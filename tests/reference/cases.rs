@@ -1,7 +1,7 @@
 //! The cases of a run: fixed ones at each limit, then random ones, whole and damaged.
 use super::damage::{damaged, spoiled};
 use super::derivations::derivation;
-use super::examples::{bench_profile, question, ROWS};
+use super::examples::{bench_profile_of, question, ROWS};
 use super::generate::*;
 use super::paths::*;
 use super::random::Random;
@@ -47,6 +47,7 @@ fn fixed_cases() -> Vec<Case> {
     path_limits(&mut all);
     tree_limits(&mut all);
     proof_limits(&mut all);
+    editions(&mut all);
     all
 }
 
@@ -67,8 +68,8 @@ fn whole_or_damaged(random: &mut Random) -> Case {
 }
 
 fn examples(all: &mut Vec<Case>) {
-    for (_, keys, asked, _) in ROWS.iter() {
-        let (profile, question) = (bench_profile(keys), question(asked));
+    for (_, edition, keys, asked, _) in ROWS.iter() {
+        let (profile, question) = (bench_profile_of(*edition, keys), question(asked));
         let decide = case(DECIDE, &profile, &question, &[]);
         let evidence = answer(&decide).bytes;
         all.push(decide);
@@ -296,6 +297,56 @@ fn proof_limits(all: &mut Vec<Case>) {
         let mut padded = full.clone();
         padded.resize(size, 0);
         put(all, &padded);
+    }
+}
+
+/// The edition's record, rule 10 and attributes of one name at their borders, each in both editions.
+fn editions(all: &mut Vec<Case>) {
+    let (base, second) = (labels(3, 0), edition_record(SECOND_EDITION));
+    let keys = key_record(&key_of(1, 1, &[0])).repeat(65);
+    let mut profiles = vec![second.clone(), second.repeat(2), [base.clone(), second.clone()].concat()];
+    for byte in [0, 1, 2, 3, 255] {
+        profiles.push([edition_record(byte), base.clone()].concat());
+        profiles.push([edition_record(byte), base.clone(), keys.clone()].concat());
+        profiles.push([second.clone(), edition_record(byte), base.clone()].concat());
+    }
+    for head in [&[][..], &[6, 0], &[5, 0, 6, 0], &[4, 0, 6, 0], &[6, 0, 6, 0, 2, 2], &[255, 255, 6, 0, 2]] {
+        profiles.push(head.to_vec());
+        profiles.push([second.clone(), head.to_vec()].concat());
+    }
+    for profile in &profiles {
+        every_operation(all, profile);
+        (0..3).for_each(|number| all.push(Case { number, ..case(BODY, profile, &[], &[]) }));
+    }
+    for profile in [base.clone(), [second, base].concat()] {
+        repeated_attributes(all, &profile);
+        tenth_rule(all, &profile);
+    }
+}
+
+/// Below the root two nodes of each label: 3 is an attribute, 2 an element.
+fn repeated_attributes(all: &mut Vec<Case>, profile: &[u8]) {
+    let node = |parent: u16, label: u8| Node { parent, label, value: 0 };
+    for label in [TEXT, 2, 3, FILLER_ELEMENT, FILLER_ATTRIBUTE] {
+        for parent in [0, 1] {
+            let nodes = [node(NONE, ROOT), node(0, 2), node(0, label), node(parent, label), node(3, 3)];
+            let bytes = write_tree(&nodes, WIDE_NODE_KIND);
+            let question = key_record(&Key { context: vec![], target: vec![label.min(3)], paths: vec![vec![]] });
+            all.push(case(KEEP, profile, &question, &bytes));
+            all.push(case(CHECK_TREE, profile, &question, &bytes));
+            all.push(case(LIST, profile, &[], &bytes));
+        }
+    }
+}
+
+fn tenth_rule(all: &mut Vec<Case>, profile: &[u8]) {
+    for target in [vec![], vec![2], vec![3], vec![TEXT], vec![ANY_PATH], vec![2, 3], vec![ANY_PATH, 3]] {
+        let key = Key { context: vec![ANY_PATH, 2], target, paths: vec![vec![]] };
+        for (rule, first, second) in [(10, NONE, NONE), (10, 0, NONE), (10, NONE, 0), (11, NONE, NONE)] {
+            let line = line_record(&Line { rule, first, second, key: key.clone() });
+            all.push(case(CHECK_PROOF, profile, &key_record(&key), &line));
+        }
+        all.push(case(DECIDE, profile, &key_record(&key), &[]));
     }
 }
 

@@ -65,7 +65,7 @@ pub fn damaged(random: &mut Random, bytes: &[u8]) -> Vec<u8> {
         }
         8 if records >= 1 => {
             // Another kind, the length as it was.
-            out[bounds[random.below(records)] + 2] = random.one_of(&[1, 2, 3, 4, 5]);
+            out[bounds[random.below(records)] + 2] = random.one_of(&[1, 2, 3, 4, 5, 6]);
         }
         _ => {
             let at = random.below(out.len() + 1);
@@ -154,6 +154,25 @@ fn spoiled_node(random: &mut Random, number: usize, kind: u16, body: &[u8]) -> V
     node_record(&node, kind)
 }
 
+/// The edition's record with another byte or another length, left out, written twice, or moved behind other records.
+fn spoiled_edition(random: &mut Random, bytes: &[u8], bounds: &[usize], chosen: usize) -> Vec<u8> {
+    let (from, to) = (bounds[chosen], bounds[chosen + 1]);
+    let other = random.one_of(&[0, 1, 3, 6, 255]);
+    let new = match random.below(5) {
+        0 => edition_record(other),
+        1 => Vec::new(),
+        2 => bytes[from..to].repeat(2),
+        3 => record(EDITION_KIND, &random.one_of(&[vec![], vec![2, 2]])),
+        _ => {
+            let behind = to + random.one_of(bounds).saturating_sub(to);
+            return [&bytes[..from], &bytes[to..behind], &bytes[from..to], &bytes[behind..]].concat();
+        }
+    };
+    let mut out = bytes.to_vec();
+    out.splice(from..to, new);
+    out
+}
+
 /// A profile, question, tree or proof with one or two faults inside its records.
 pub fn spoiled(random: &mut Random, world: &World, bytes: &[u8]) -> Vec<u8> {
     let mut out = bytes.to_vec();
@@ -169,9 +188,13 @@ fn spoiled_once(random: &mut Random, world: &World, bytes: &[u8]) -> Vec<u8> {
     if records == 0 {
         return bytes.to_vec();
     }
-    let chosen = random.below(records);
+    let has_edition = bytes[2] as u16 == EDITION_KIND;
+    let chosen = if has_edition && random.chance(1, 4) { 0 } else { random.below(records) };
     let (from, to) = (bounds[chosen], bounds[chosen + 1]);
     let (kind, body) = (bytes[from + 2] as u16, &bytes[from + 4..to]);
+    if kind == EDITION_KIND {
+        return spoiled_edition(random, bytes, &bounds, chosen);
+    }
     let new = match kind {
         LABEL_KIND if body.len() > 2 => {
             let label = |body: &[u8]| Label { number: body[0], class: body[1], name: body[2..].to_vec() };

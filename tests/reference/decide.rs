@@ -1,6 +1,6 @@
 //! The decider: pattern, steps, verdict and evidence (01, "The counterexample that is written").
 use super::paths::{is_word, normal_form, Class, Path, ANY_PATH, FILLER_ATTRIBUTE, FILLER_ELEMENT, ROOT};
-use super::records::{Key, Line, Node, Profile, NONE};
+use super::records::{Key, Line, Node, Profile, NONE, SECOND_EDITION};
 use super::wrong;
 
 /// The pattern of a key: nodes in 01's order, downwards, branch after branch.
@@ -66,15 +66,20 @@ impl Pattern {
         self.run(v, w).map_or(false, |run| is_word(&run, path))
     }
 
-    /// All steps (from, to): to children, and those that the profile's keys let be taken.
-    pub fn steps(&self, keys: &[Key]) -> Vec<(usize, usize)> {
+    /// All steps (from, to): to children, in edition 2 from each attribute to its parent, and those that the profile's keys let
+    /// be taken.
+    pub fn steps(&self, profile: &Profile) -> Vec<(usize, usize)> {
         let mut steps: Vec<(usize, usize)> = Vec::new();
         for node in 0..self.len() {
             if let Some(parent) = self.parent[node] {
                 steps.push((parent, node));
+                let is_attribute = profile.classes.of(self.label[node]) == Some(Class::Attribute);
+                if profile.edition == SECOND_EDITION && is_attribute && !(wrong(18) && parent != self.q) {
+                    steps.push((node, parent));
+                }
             }
         }
-        for key in keys {
+        for key in &profile.keys {
             let lands = |from: usize, path: &[u8]| {
                 (0..self.len()).any(|end| self.marked[end] && self.is_reached(from, end, path))
             };
@@ -90,8 +95,8 @@ impl Pattern {
     }
 
     /// Which nodes lead to q by no or more steps.
-    pub fn leads_to_q(&self, keys: &[Key]) -> Vec<bool> {
-        let steps = self.steps(keys);
+    pub fn leads_to_q(&self, profile: &Profile) -> Vec<bool> {
+        let steps = self.steps(profile);
         let mut leads = vec![false; self.len()];
         leads[self.q] = true;
         let mut grew = true;
@@ -113,8 +118,8 @@ pub enum Verdict {
     NotImplied { u: usize },
 }
 
-pub fn verdict(pattern: &Pattern, keys: &[Key]) -> Verdict {
-    let leads = pattern.leads_to_q(keys);
+pub fn verdict(pattern: &Pattern, profile: &Profile) -> Verdict {
+    let leads = pattern.leads_to_q(profile);
     if leads[pattern.t] {
         return Verdict::Implied;
     }
@@ -175,6 +180,8 @@ struct Writer<'a> {
     way: Path,
     c: usize,
     n: usize,
+    /// In edition 2 the target ends in an attribute.
+    ends_single: bool,
     lines: Vec<Line>,
 }
 
@@ -189,9 +196,11 @@ struct Step {
 pub fn proof(question: &Key, profile: &Profile) -> Option<Vec<Line>> {
     let way = [question.context.as_slice(), &question.target].concat();
     let (c, n) = (question.context.len(), way.len());
-    let mut writer = Writer { question, keys: &profile.keys, way, c, n, lines: Vec::new() };
-    let steps = writer.search()?;
-    writer.write(&steps);
+    let is_attribute = |&label: &u8| profile.classes.of(label) == Some(Class::Attribute);
+    let ends_single = profile.edition == SECOND_EDITION && question.target.last().map_or(false, is_attribute);
+    let mut writer = Writer { question, keys: &profile.keys, way, c, n, ends_single, lines: Vec::new() };
+    let (steps, lowest) = writer.search()?;
+    writer.write(&steps, lowest);
     Some(writer.lines)
 }
 
@@ -243,15 +252,16 @@ impl<'a> Writer<'a> {
         None
     }
 
-    fn search(&self) -> Option<Vec<Step>> {
+    /// The steps from q downwards, and the place where they end: t, or in edition 2 the parent of an attribute.
+    fn search(&self) -> Option<(Vec<Step>, usize)> {
         let mut u = self.c;
         let mut steps = Vec::new();
-        while u < self.n {
+        while u < self.n && !(self.ends_single && u + 1 == self.n) {
             let step = self.step_over(u)?;
             u = step.from.min(self.n);
             steps.push(step);
         }
-        Some(steps)
+        Some((steps, u))
     }
 
     fn put(&mut self, rule: u8, first: u16, second: u16, context: &[u8], target: &[u8], paths: &[Path]) -> u16 {
@@ -263,10 +273,12 @@ impl<'a> Writer<'a> {
         (self.lines.len() - 1) as u16
     }
 
-    fn write(&mut self, steps: &[Step]) {
+    /// The first line has no premise: an empty target by rule 1, or an attribute alone by rule 10.
+    fn write(&mut self, steps: &[Step], lowest: usize) {
         let (way, asked) = (self.way.clone(), self.question.paths.clone());
-        let mut h = self.n;
-        let mut last = self.put(1, NONE, NONE, &way, &[], &asked);
+        let mut h = lowest;
+        let rule = if lowest < self.n { 10 } else { 1 };
+        let mut last = self.put(rule, NONE, NONE, &way[..lowest], &way[lowest..], &asked);
         for step in steps.iter().rev() {
             last = self.write_step(step, last);
             h = step.to;

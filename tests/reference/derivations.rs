@@ -8,7 +8,7 @@ use super::records::*;
 pub fn derivation(random: &mut Random, asked: &Asked, length: usize) -> Vec<Line> {
     let mut lines: Vec<Line> = Vec::new();
     while lines.len() < length {
-        let rule = if lines.is_empty() { random.below(2) as u8 } else { random.below(10) as u8 };
+        let rule = if lines.is_empty() { random.one_of(&[0, 1, 10]) } else { random.below(11) as u8 };
         let line = match rule {
             0 if asked.profile.keys.is_empty() => continue,
             0 => {
@@ -21,6 +21,12 @@ pub fn derivation(random: &mut Random, asked: &Asked, length: usize) -> Vec<Line
                 any.target.clear();
                 Line { rule, first: NONE, second: NONE, key: any }
             }
+            // In edition 1 no line follows by rule 10: that is tried now and then.
+            10 if asked.world.edition == FIRST_EDITION && !random.chance(1, 20) => continue,
+            10 => match one_attribute(random, &asked.world) {
+                Some(key) => Line { rule, first: NONE, second: NONE, key },
+                None => continue,
+            },
             9 => match interaction(random, &lines) {
                 Some(line) => line,
                 None => continue,
@@ -36,6 +42,16 @@ pub fn derivation(random: &mut Random, asked: &Asked, length: usize) -> Vec<Line
         lines.push(if random.chance(1, 40) { slip(random, &asked.world, line) } else { line });
     }
     lines
+}
+
+/// A key whose target is an attribute label, if there is one.
+fn one_attribute(random: &mut Random, world: &World) -> Option<Key> {
+    let attributes = world.attributes();
+    if attributes.is_empty() {
+        return None;
+    }
+    let context = inner_path(random, world, 4, true);
+    Some(Key { context, target: vec![random.one_of(&attributes)], paths: vec![vec![]] })
 }
 
 /// A key that the rule gives from one premise, if it gives any.
@@ -128,7 +144,7 @@ fn interaction(random: &mut Random, lines: &[Line]) -> Option<Line> {
 fn slip(random: &mut Random, world: &World, line: Line) -> Line {
     let mut slipped = line;
     match random.below(5) {
-        0 => slipped.rule = random.below(11) as u8,
+        0 => slipped.rule = random.below(12) as u8,
         1 => slipped.first = random.one_of(&[0, 1, 2, 63, 64, NONE]),
         2 => slipped.second = random.one_of(&[0, 1, NONE, 65_534]),
         3 => slipped.key = key(random, world),

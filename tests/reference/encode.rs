@@ -1,5 +1,5 @@
 //! The bytes of records (01, "Records").
-use super::records::{value_bytes, Key, Label, Line, Node, Profile, KEY_KIND, LABEL_KIND, LINE_KIND};
+use super::records::{value_bytes, Key, Label, Line, Node, Profile, EDITION_KIND, KEY_KIND, LABEL_KIND, LINE_KIND, SECOND_EDITION};
 
 fn put_two(out: &mut Vec<u8>, number: u16) {
     out.push((number % 256) as u8);
@@ -55,8 +55,15 @@ pub fn line_record(line: &Line) -> Vec<u8> {
     record(LINE_KIND, &body)
 }
 
+pub fn edition_record(edition: u8) -> Vec<u8> {
+    record(EDITION_KIND, &[edition])
+}
+
 pub fn write_profile(profile: &Profile) -> Vec<u8> {
     let mut out = Vec::new();
+    if profile.edition == SECOND_EDITION {
+        out.extend(edition_record(SECOND_EDITION));
+    }
     for label in &profile.labels {
         out.extend(label_record(label));
     }

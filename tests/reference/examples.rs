@@ -1,25 +1,26 @@
 //! The bench examples of 01, and keys read in 01's notation.
 use super::paths::{Path, ANY_PATH, TEXT};
-use super::records::{key_record, label_record, Key, Label};
+use super::records::{edition_record, key_record, label_record, Key, Label, FIRST_EDITION, SECOND_EDITION};
 
 /// (number, class, name): "Elements 2 run, 3 port, 4 frame, 5 stamp; attributes 6 id, 7 seq."
 pub const BENCH_LABELS: [(u8, u8, &str); 6] =
     [(2, 1, "run"), (3, 1, "port"), (4, 1, "frame"), (5, 1, "stamp"), (6, 2, "id"), (7, 2, "seq")];
 
-/// Row, profile keys, question, implied.
-pub const ROWS: [(char, &[&str], &str, bool); 12] = [
-    ('a', &["(e,(port.frame,{@seq}))"], "(port,(frame,{@seq}))", true),
-    ('b', &["(port,(frame,{@seq}))"], "(e,(port.frame,{@seq}))", false),
-    ('c', &["(e,(port.frame,{e,stamp}))"], "(e,(port,{e,frame.stamp}))", true),
-    ('d', &["(e,(port.frame,{stamp,@seq}))"], "(e,(port,{frame.stamp,frame.@seq}))", false),
-    ('f', &["(e,(port,{frame.@seq}))", "(port,(frame,{@seq}))"], "(e,(port.frame,{@seq}))", true),
-    ('g', &[], "(run,(e,{@id}))", true),
-    ('h', &["(e,(_*.frame,{@seq}))"], "(e,(port.frame,{@seq}))", true),
-    ('i', &["(e,(port.frame,{@seq}))"], "(e,(_*.frame,{@seq}))", false),
-    ('j', &["(e,(frame,{stamp.#}))"], "(e,(frame,{stamp}))", false),
-    ('k', &["(e,(port,{frame}))"], "(e,(port,{frame.@seq}))", false),
-    ('l', &["(e,(port,{e,frame}))"], "(e,(port,{e,frame.@seq}))", true),
-    ('m', &[], "(port,(@id,{e}))", false),
+/// Row, the profile's edition and keys, question, implied. m2 is m in edition 2.
+pub const ROWS: [(&str, u8, &[&str], &str, bool); 13] = [
+    ("a", FIRST_EDITION, &["(e,(port.frame,{@seq}))"], "(port,(frame,{@seq}))", true),
+    ("b", FIRST_EDITION, &["(port,(frame,{@seq}))"], "(e,(port.frame,{@seq}))", false),
+    ("c", FIRST_EDITION, &["(e,(port.frame,{e,stamp}))"], "(e,(port,{e,frame.stamp}))", true),
+    ("d", FIRST_EDITION, &["(e,(port.frame,{stamp,@seq}))"], "(e,(port,{frame.stamp,frame.@seq}))", false),
+    ("f", FIRST_EDITION, &["(e,(port,{frame.@seq}))", "(port,(frame,{@seq}))"], "(e,(port.frame,{@seq}))", true),
+    ("g", FIRST_EDITION, &[], "(run,(e,{@id}))", true),
+    ("h", FIRST_EDITION, &["(e,(_*.frame,{@seq}))"], "(e,(port.frame,{@seq}))", true),
+    ("i", FIRST_EDITION, &["(e,(port.frame,{@seq}))"], "(e,(_*.frame,{@seq}))", false),
+    ("j", FIRST_EDITION, &["(e,(frame,{stamp.#}))"], "(e,(frame,{stamp}))", false),
+    ("k", FIRST_EDITION, &["(e,(port,{frame}))"], "(e,(port,{frame.@seq}))", false),
+    ("l", FIRST_EDITION, &["(e,(port,{e,frame}))"], "(e,(port,{e,frame.@seq}))", true),
+    ("m", FIRST_EDITION, &[], "(port,(@id,{e}))", false),
+    ("m2", SECOND_EDITION, &[], "(port,(@id,{e}))", true),
 ];
 
 pub const LISTING_OF_B: &str = "nodes 12\n0 - 203 -\n1 0 202 1\n2 0 3 -\n3 2 202 3\n4 2 4 -\n5 4 202 5\n6 4 7 6\n\
@@ -63,6 +64,12 @@ pub fn bench_profile(keys: &[&str]) -> Vec<u8> {
         bytes.extend(key_record(&key(text)));
     }
     bytes
+}
+
+/// The same in either edition.
+pub fn bench_profile_of(edition: u8, keys: &[&str]) -> Vec<u8> {
+    let first = if edition == SECOND_EDITION { edition_record(edition) } else { Vec::new() };
+    [first, bench_profile(keys)].concat()
 }
 
 pub fn question(text: &str) -> Vec<u8> {

@@ -6,8 +6,9 @@ use super::random::Random;
 use super::records::*;
 use std::collections::BTreeMap;
 
-/// The labels of one random profile.
+/// The edition and the labels of one random profile.
 pub struct World {
+    pub edition: u8,
     pub labels: Vec<Label>,
     pub classes: Classes,
     pub elements: Vec<u8>,
@@ -24,7 +25,15 @@ impl World {
             elements.push(FILLER_ELEMENT);
         }
         let last_only = std::iter::once(TEXT).chain(of_class(2)).collect();
-        World { labels: profile.labels.clone(), classes: profile.classes.clone(), elements, last_only }
+        World { edition: profile.edition, labels: profile.labels.clone(), classes: profile.classes.clone(), elements, last_only }
+    }
+
+    fn is_attribute(&self, label: u8) -> bool {
+        self.classes.of(label) == Some(Class::Attribute)
+    }
+
+    pub fn attributes(&self) -> Vec<u8> {
+        self.last_only.iter().copied().filter(|&label| self.is_attribute(label)).collect()
     }
 }
 
@@ -35,7 +44,8 @@ pub fn world(random: &mut Random) -> World {
     let numbers = random.one_of(&sets);
     let elements = 1 + random.below(3);
     let attributes = random.below(3);
-    let mut world = World { labels: Vec::new(), classes: Classes::none(), elements: vec![], last_only: vec![TEXT] };
+    let edition = if random.chance(1, 3) { SECOND_EDITION } else { FIRST_EDITION };
+    let mut world = World { edition, labels: Vec::new(), classes: Classes::none(), elements: vec![], last_only: vec![TEXT] };
     for at in 0..elements + attributes {
         let number = numbers[at];
         let class = if at < elements { 1 } else { 2 };
@@ -87,8 +97,8 @@ pub fn key(random: &mut Random, world: &World) -> Key {
     if target.is_empty() && random.chance(3, 4) {
         target.push(random.one_of(&world.elements));
     }
-    if random.chance(1, 8) {
-        // An attribute or text as target, or as context of an empty target.
+    // An attribute or text as target, or as context of an empty target: in edition 2 that makes a difference.
+    if random.chance(1, if world.edition == SECOND_EDITION { 4 } else { 8 }) {
         let last = random.one_of(&world.last_only);
         if random.chance(3, 4) {
             target.push(last);
@@ -172,9 +182,14 @@ fn key_between(random: &mut Random, world: &World, asked: &Key, branch: usize, f
     }
 }
 
-/// Keys whose steps together lead from t up to q, rung by rung; now and then a rung is missing.
+/// Keys whose steps together lead from t up to q, rung by rung; now and then a rung is missing. In edition 2 an attribute needs no key for
+/// the step to its parent.
 fn ladder(random: &mut Random, world: &World, asked: &Key) -> Vec<Key> {
-    let (c, n) = (asked.context.len(), asked.context.len() + asked.target.len());
+    let (c, mut n) = (asked.context.len(), asked.context.len() + asked.target.len());
+    let ends_single = asked.target.last().map_or(false, |&label| world.is_attribute(label));
+    if world.edition == SECOND_EDITION && ends_single && random.chance(2, 3) {
+        n -= 1;
+    }
     let mut keys = Vec::new();
     let mut upper = c;
     while upper < n {
@@ -209,7 +224,7 @@ pub fn asked(random: &mut Random) -> Asked {
         let next = if random.chance(3, 4) { key_near(random, &world, &question) } else { key(random, &world) };
         keys.insert(at, next);
     }
-    let profile = Profile { labels: world.labels.clone(), keys, classes: world.classes.clone() };
+    let profile = Profile { edition: world.edition, labels: world.labels.clone(), keys, classes: world.classes.clone() };
     Asked { world, profile, question }
 }
 
@@ -224,8 +239,40 @@ fn value(random: &mut Random, values: usize, kind: u16) -> u32 {
     65_536 * high + random.below(values) as u32
 }
 
-/// A tree of few labels and values, in which whole subtrees are written again; its values fit records of that kind.
+/// A tree of few labels and values, in which whole subtrees are written again; its values fit records of that kind. In edition 2
+/// some have an attribute repeated.
 pub fn tree(random: &mut Random, world: &World, size: usize, kind: u16) -> Vec<Node> {
+    if random.chance(1, 8) {
+        return any_tree(random, world, size, kind);
+    }
+    tree_of_edition(random, world, size, kind)
+}
+
+/// The same without repeated attributes where the edition has none.
+pub fn tree_of_edition(random: &mut Random, world: &World, size: usize, kind: u16) -> Vec<Node> {
+    let nodes = any_tree(random, world, size, kind);
+    if world.edition == SECOND_EDITION {
+        return without_repeats(&nodes, world);
+    }
+    nodes
+}
+
+/// Drops each attribute whose name stands before it under the same element, and renumbers the others. Attributes have no children.
+fn without_repeats(nodes: &[Node], world: &World) -> Vec<Node> {
+    let mut kept: Vec<Node> = Vec::new();
+    let mut place = vec![NONE; nodes.len()];
+    for (number, node) in nodes.iter().enumerate() {
+        let parent = if node.parent == NONE { NONE } else { place[node.parent as usize] };
+        let is_twin = |other: &Node| (other.parent, other.label) == (parent, node.label);
+        if !(world.is_attribute(node.label) && kept.iter().any(is_twin)) {
+            place[number] = kept.len() as u16;
+            kept.push(Node { parent, ..*node });
+        }
+    }
+    kept
+}
+
+fn any_tree(random: &mut Random, world: &World, size: usize, kind: u16) -> Vec<Node> {
     let mut nodes = vec![Node { parent: NONE, label: ROOT, value: 0 }];
     let values = 1 + random.below(4);
     while nodes.len() < size {
@@ -368,7 +415,7 @@ pub enum Evidence {
 
 pub fn evidence(asked: &Asked) -> Evidence {
     let pattern = Pattern::of(&asked.question);
-    match verdict(&pattern, &asked.profile.keys) {
+    match verdict(&pattern, &asked.profile) {
         Verdict::Implied => Evidence::Proof(proof(&asked.question, &asked.profile).unwrap_or_default()),
         Verdict::NotImplied { u } => Evidence::Tree(counterexample(&pattern, u, &asked.profile)),
     }

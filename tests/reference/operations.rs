@@ -50,7 +50,7 @@ pub fn include(profile: &[u8], p: &[u8], q: &[u8]) -> Result<bool, Refusal> {
 pub fn keep(profile: &[u8], question: &[u8], tree: &[u8]) -> Result<bool, Refusal> {
     let profile = read_profile(profile)?;
     let key = read_question(question, &profile.classes)?;
-    let nodes = read_tree(tree, &profile.classes)?;
+    let nodes = read_tree(tree, &profile)?;
     Ok(Tree::new(&nodes, &profile.classes).keeps(&key))
 }
 
@@ -68,7 +68,7 @@ pub fn check_proof(profile: &[u8], question: &[u8], proof: &[u8]) -> Result<(), 
 pub fn check_counterexample(profile: &[u8], question: &[u8], tree: &[u8]) -> Result<(), Refusal> {
     let profile = read_profile(profile)?;
     let key = read_question(question, &profile.classes)?;
-    let nodes = read_tree(tree, &profile.classes)?;
+    let nodes = read_tree(tree, &profile)?;
     let tree = Tree::new(&nodes, &profile.classes);
     let tried = if wrong(12) { 1.min(profile.keys.len()) } else { profile.keys.len() };
     if let Some(broken) = (0..tried).find(|&number| !tree.keeps(&profile.keys[number])) {
@@ -85,7 +85,7 @@ pub fn decide(profile: &[u8], question: &[u8], answer: usize) -> Result<Decision
     let profile = read_profile(profile)?;
     let key = read_question(question, &profile.classes)?;
     let pattern = Pattern::of(&key);
-    match verdict(&pattern, &profile.keys) {
+    match verdict(&pattern, &profile) {
         Verdict::Implied => {
             let lines = proof(&key, &profile).expect("the argument's search agrees with the steps");
             Ok(Decision::Implied(write_proof(&lines)))
@@ -101,6 +101,6 @@ pub fn decide(profile: &[u8], question: &[u8], answer: usize) -> Result<Decision
 pub fn list(profile: &[u8], tree: &[u8], k: u64, answer: usize) -> Result<Vec<u8>, Refusal> {
     check_answer(answer)?;
     let profile = read_profile(profile)?;
-    let nodes = read_tree(tree, &profile.classes)?;
+    let nodes = read_tree(tree, &profile)?;
     Ok(block(&nodes, &profile.classes, k))
 }

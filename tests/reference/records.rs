@@ -1,7 +1,7 @@
 //! The records of profile, question, tree and proof, each input checked from the front
 //! (01, "Records" and "Refusal numbers").
 use super::paths::{is_normal, is_simple, is_valid, join, Class, Classes, Path};
-use super::paths::{ANY_PATH, FIRST_DECLARED, LAST_DECLARED, ROOT, TEXT};
+use super::paths::{ANY_PATH, FILLER_ATTRIBUTE, FIRST_DECLARED, LAST_DECLARED, ROOT, TEXT};
 use super::wrong;
 
 pub use super::encode::*;
@@ -29,6 +29,10 @@ pub const LINE_KIND: u16 = 4;
 /// A node record with a value of four bytes (02, request 11).
 pub const WIDE_NODE_KIND: u16 = 5;
 pub const NODE_KINDS: [u16; 2] = [NODE_KIND, WIDE_NODE_KIND];
+pub const EDITION_KIND: u16 = 6;
+
+pub const FIRST_EDITION: u8 = 1;
+pub const SECOND_EDITION: u8 = 2;
 
 #[derive(Clone, Copy, PartialEq, Eq, Debug)]
 pub struct Refusal {
@@ -57,6 +61,7 @@ pub struct Label {
 
 #[derive(Clone)]
 pub struct Profile {
+    pub edition: u8,
     pub labels: Vec<Label>,
     pub keys: Vec<Key>,
     pub classes: Classes,
@@ -145,6 +150,7 @@ fn body_fits(kind: u16, body: &[u8]) -> bool {
         KEY_KIND => read_key(body).is_some(),
         NODE_KIND | WIDE_NODE_KIND => body.len() == 3 + value_bytes(kind),
         LINE_KIND => body.len() >= 5 && read_key(&body[5..]).is_some(),
+        EDITION_KIND => body.len() == 1,
         _ => true,
     }
 }
@@ -205,14 +211,25 @@ fn has_label_fault(label: &Label, before: &[Label]) -> bool {
         || before.iter().any(|other| other.name == label.name)
 }
 
+/// "A profile of edition 2 begins with a record of kind 6, one byte, 2; without it the profile is edition 1": how many records
+/// that takes, none or one, and what stands behind it.
+fn read_edition(bytes: &[u8]) -> Result<(usize, &[u8]), Refusal> {
+    match first_record(bytes) {
+        Some((EDITION_KIND, [SECOND_EDITION], after)) => Ok((1, after)),
+        Some((EDITION_KIND, _, _)) => refuse(3, PROFILE, 0),
+        _ => Ok((0, bytes)),
+    }
+}
+
 pub fn read_profile(bytes: &[u8]) -> Result<Profile, Refusal> {
-    let mut profile = Profile { labels: Vec::new(), keys: Vec::new(), classes: Classes::none() };
     if bytes.len() > PROFILE_BYTES {
         return refuse(7, PROFILE, 0);
     }
-    let mut rest = bytes;
+    let (before, mut rest) = read_edition(bytes)?;
+    let edition = if before == 1 { SECOND_EDITION } else { FIRST_EDITION };
+    let mut profile = Profile { edition, labels: Vec::new(), keys: Vec::new(), classes: Classes::none() };
     while !rest.is_empty() {
-        let record = profile.labels.len() + profile.keys.len();
+        let record = before + profile.labels.len() + profile.keys.len();
         if profile.keys.len() == PROFILE_KEYS && kind_of(rest) == Some(KEY_KIND) {
             return refuse(7, PROFILE, record);
         }
@@ -295,7 +312,16 @@ fn tree_kind(bytes: &[u8]) -> (u16, usize) {
     }
 }
 
-pub fn read_tree(bytes: &[u8], classes: &Classes) -> Result<Vec<Node>, Refusal> {
+/// "In edition 2 the trees .. have each attribute name at most once under an element"; 202 is a name like any other.
+pub fn is_repeated(node: &Node, before: &[Node], profile: &Profile) -> bool {
+    let is_name = profile.classes.of(node.label) == Some(Class::Attribute);
+    let is_tried = is_name && !(wrong(17) && node.label == FILLER_ATTRIBUTE);
+    profile.edition == SECOND_EDITION
+        && is_tried
+        && before.iter().any(|other| (other.parent, other.label) == (node.parent, node.label))
+}
+
+pub fn read_tree(bytes: &[u8], profile: &Profile) -> Result<Vec<Node>, Refusal> {
     let mut nodes: Vec<Node> = Vec::new();
     let (node_kind, most_bytes) = tree_kind(bytes);
     if bytes.len() > most_bytes {
@@ -318,8 +344,11 @@ pub fn read_tree(bytes: &[u8], classes: &Classes) -> Result<Vec<Node>, Refusal> 
             return refuse(2, TREE_OR_PROOF, record);
         }
         let node = read_node(body);
-        if !is_node(&node, &nodes, classes) {
+        if !is_node(&node, &nodes, &profile.classes) {
             return refuse(8, TREE_OR_PROOF, record);
+        }
+        if is_repeated(&node, &nodes, profile) {
+            return refuse(16, TREE_OR_PROOF, record);
         }
         nodes.push(node);
         rest = after;

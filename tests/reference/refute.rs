@@ -1,6 +1,6 @@
 //! A search for a tree that refutes an implied question: one that keeps the profile and breaks the question.
 use super::decide::{counterexample, Pattern};
-use super::generate::{tree, World};
+use super::generate::{tree_of_edition, World};
 use super::random::Random;
 use super::records::*;
 use super::trees::Tree;
@@ -33,17 +33,21 @@ pub fn search(random: &mut Random, profile: &Profile, question: &Key) -> Search 
 }
 
 /// Few random trees break a given key. So the question's pattern is doubled besides, below each node from
-/// q to t and not below u alone: its two targets agree on every key path.
+/// q to t and not below u alone: its two targets agree on every key path. In edition 2 a doubled pattern that
+/// has an attribute twice under an element is no tree.
 fn candidates(random: &mut Random, profile: &Profile, question: &Key) -> Vec<Vec<Node>> {
     let world = World::of(profile);
     let mut trees = Vec::new();
     for _ in 0..RANDOM_TREES {
         let size = 1 + random.below(RANDOM_NODES);
-        trees.push(tree(random, &world, size, WIDE_NODE_KIND));
+        trees.push(tree_of_edition(random, &world, size, WIDE_NODE_KIND));
     }
     let pattern = Pattern::of(question);
     for node in pattern.q..pattern.t {
         let doubled = counterexample(&pattern, node, profile);
+        if (0..doubled.len()).any(|at| is_repeated(&doubled[at], &doubled[..at], profile)) {
+            continue;
+        }
         trees.push(with_other_values(random, &doubled, profile));
         trees.push(doubled);
     }

@@ -1,6 +1,6 @@
 //! The rules of inference (01, "Rules of inference"), each a sentence about keys.
-use super::paths::{is_included, is_simple, join, Path, ANY_PATH};
-use super::records::{Key, Line, Profile, NONE};
+use super::paths::{is_included, is_simple, join, Class, Path, ANY_PATH};
+use super::records::{Key, Line, Profile, NONE, SECOND_EDITION};
 use super::wrong;
 
 /// Whether a line follows after the lines before it.
@@ -18,8 +18,15 @@ pub fn follows(line: &Line, before: &[Line], profile: &Profile) -> bool {
             (Some(first), Some(second)) => interaction(first, second, new),
             _ => false,
         },
+        10 => first_unused && second_unused && one_attribute(new, profile),
         _ => false,
     }
+}
+
+/// "A tenth rule accepts without premise any key whose target is a single attribute label", in edition 2.
+fn one_attribute(new: &Key, profile: &Profile) -> bool {
+    let is_attribute = |&label: &u8| profile.classes.of(label) == Some(Class::Attribute);
+    (profile.edition == SECOND_EDITION || wrong(16)) && new.target.len() == 1 && new.target.iter().all(is_attribute)
 }
 
 fn follows_from_one(rule: u8, old: &Key, new: &Key, profile: &Profile) -> bool {

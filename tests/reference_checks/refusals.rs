@@ -98,3 +98,26 @@ fn proof_lines(tally: &mut Tally, labels: &[u8]) {
     tally.refused("last is not the question", of("0e 00 04 00 01 ff ff ff ff 01 02 00 01 00"), (10, 3, 0));
     tally.refused("the record 10 gives", of("0d 00 04 00 01 ff ff ff ff 00 00 01 00 0e 00 04 00 01 ff ff ff ff 01 02 00 01 00"), (10, 3, 1));
 }
+
+const ED2: &str = "05 00 06 00 02";
+
+/// The edition's record, and what it changes: 16 and rule 10.
+pub fn editions(tally: &mut Tally) {
+    let rewritten = |parts: &[&str]| rewrite(&all(parts), ROOM);
+    tally.same("edition 2", rewritten(&[ED2, LA, LB]), Ok(all(&[ED2, LA, LB])));
+    tally.same("edition 2, its body", body(&all(&[ED2, LA, LB]), 0).to_vec(), vec![2]);
+    tally.refused("edition 1 by a record", rewritten(&["05 00 06 00 01", LA]), (3, 1, 0));
+    tally.refused("edition 3 before the next record", rewritten(&["05 00 06 00 03", "09"]), (3, 1, 0));
+    tally.refused("edition without byte", rewritten(&["04 00 06 00"]), (1, 1, 0));
+    tally.refused("edition twice", rewritten(&[ED2, ED2]), (2, 1, 1));
+    tally.refused("edition behind a label", rewritten(&[LA, ED2]), (2, 1, 1));
+    tally.refused("records go on counting", rewritten(&[ED2, LA, LB, LB]), (3, 1, 3));
+    let twice = [ROOT_NODE, "09 00 03 00 00 00 06 01 00", "09 00 03 00 00 00 06 02 00"];
+    tally.refused("repeated", keep(&all(&[ED2, LA, LB]), &hex(Q0), &all(&twice)), (16, 3, 2));
+    tally.same("repeated in edition 1", keep(&all(&[LA, LB]), &hex(Q0), &all(&twice)), Ok(true));
+    let fillers = [ROOT_NODE, "09 00 03 00 00 00 ca 01 00", "09 00 03 00 00 00 ca 02 00"];
+    tally.refused("repeated filler", keep(&all(&[ED2, LA, LB]), &hex(Q0), &all(&fillers)), (16, 3, 2));
+    let (asked, line) = ("0a 00 02 00 01 02 01 06 01 00", "0f 00 04 00 0a ff ff ff ff 01 02 01 06 01 00");
+    tally.same("rule 10", check_proof(&all(&[ED2, LA, LB]), &hex(asked), &hex(line)), Ok(()));
+    tally.refused("rule 10 in edition 1", check_proof(&all(&[LA, LB]), &hex(asked), &hex(line)), (9, 3, 0));
+}

@@ -9,7 +9,7 @@ use Rattle.meaning.specs.Paths.{Label, member}
 use Rattle.meaning.specs.Records.{recordBody}
 use Rattle.meaning.specs.Refusals.{sound, profileRefusal, treeRefusal, nodesIn, pathRefusal}
 use Rattle.meaning.specs.Refusals as Table
-use Rattle.meaning.specs.Operations.{Answer, Rewrites, Includes, Lists, refusedBy, filled, plain, rewritten, included, notIncluded, listed, labelsIn, bodyAt, recordsFrom}
+use Rattle.meaning.specs.Operations.{Answer, Rewrites, Includes, Lists, refusedBy, filled, plain, rewritten, included, notIncluded, listed, labelsIn, bodyAt, recordsFrom, secondIn}
 use Rattle.shapes.specs.Classes.{Tabled, Bytes, classBy}
 use Rattle.judged.specs.Answers.{refusalOf}
 use Rattle.judged.specs.declared.Judged.{Judged}
@@ -29,7 +29,7 @@ use Rattle.theory_records.specs.Profiles.{accepted-labels}
 use native.Mathlib.Nat.{pos-of-ne-zero, zero-add}
 use Rattle.theory_checks.specs.Inclusions.{include-profile, include-first, include-second, include-yes, include-no, path-passes, path-short}
 
-module _ {profile classes : List ℕ} {judged : Judged} {labels keys : ℕ} (says : ProfileSays profile judged classes labels keys) {o : Outcome}
+module _ {profile classes : List ℕ} {judged : Judged} {second : Bool} {labels keys : ℕ} (says : ProfileSays profile judged classes second labels keys) {o : Outcome}
     (e : o ≡ outcomeOf 1 judged) where
   -- the profile's refusal, and that it names its input
   pub refused-is : {r : Refusal} → o ≡ O.Refused r → meant r ≡ profileRefusal profile
@@ -61,12 +61,12 @@ pub small-rewrites : (profile buffer : List ℕ) (r : Refusal) → length buffer
     → Rewrites profile buffer (refusedBy (meant r) buffer)
 small-rewrites profile buffer r h e = subst (λ (x : Table.Refusal). Rewrites profile buffer (refusedBy x buffer)) (sym e) (rewrite-small profile buffer h)
 
-pub body-none : {profile classes : List ℕ} {judged : Judged} {labels keys : ℕ} → ProfileSays profile judged classes labels keys → (n a b : ℕ)
+pub body-none : {profile classes : List ℕ} {judged : Judged} {second : Bool} {labels keys : ℕ} → ProfileSays profile judged classes second labels keys → (n a b : ℕ)
     → judged ≡ J.Refused a b → [] ≡ bodyAt profile n
 body-none {profile} {judged = judged} says n a b k =
     body-refused profile n (record { number = a; input = 1; place = b }) (ap (refusalOf 1) (sym k) ∙ says .refusal) (omega arith)
 
-pub body-there : {profile classes : List ℕ} {judged : Judged} {labels keys : ℕ} → ProfileSays profile judged classes labels keys → (n : ℕ)
+pub body-there : {profile classes : List ℕ} {judged : Judged} {second : Bool} {labels keys : ℕ} → ProfileSays profile judged classes second labels keys → (n : ℕ)
     (rest body : List ℕ) → judged ≡ J.Sound → rest ≡ recordsFrom n profile → body ≡ recordBody rest → body ≡ bodyAt profile n
 body-there {profile} {judged = judged} says n rest body k r b =
     b ∙ ap recordBody r ∙ body-accepted profile n (ap (refusalOf 1) (sym k) ∙ says .refusal)
@@ -83,16 +83,25 @@ pub record Ready (profile classes : List ℕ) : Type 0 where
   pub accepted : sound ≡ profileRefusal profile
   pub tabled : Tabled (labelsIn profile) classes
 
-pub ready-of : {profile classes : List ℕ} {judged : Judged} {labels keys : ℕ} → ProfileSays profile judged classes labels keys → {o : Outcome}
+-- and of this edition
+pub record ReadyIn (profile classes : List ℕ) (second : Bool) : Type 0 where
+  pub ready : Ready profile classes
+  pub edition : second ≡ secondIn profile
+
+pub ready-of : {profile classes : List ℕ} {judged : Judged} {second : Bool} {labels keys : ℕ} → ProfileSays profile judged classes second labels keys → {o : Outcome}
     → o ≡ outcomeOf 1 judged → o ≡ O.Fine → Ready profile classes
 ready-of says e k = record { accepted = fine-is says e k; tabled = fine-tabled says e k }
 
-pub tables-of : {profile classes : List ℕ} {judged : Judged} {labels keys : ℕ} → ProfileSays profile judged classes labels keys → {o : Outcome}
+pub ready-in : {profile classes : List ℕ} {judged : Judged} {second : Bool} {labels keys : ℕ} → ProfileSays profile judged classes second labels keys → {o : Outcome}
+    → o ≡ outcomeOf 1 judged → o ≡ O.Fine → ReadyIn profile classes second
+ready-in says e k = record { ready = ready-of says e k; edition = says .edition (sound-number (fine-is says e k)) }
+
+pub tables-of : {profile classes : List ℕ} {judged : Judged} {second : Bool} {labels keys : ℕ} → ProfileSays profile judged classes second labels keys → {o : Outcome}
     → o ≡ outcomeOf 1 judged → o ≡ O.Fine → length classes ≤ 256 → Tables classes
 tables-of {profile} says e k small =
     record { labels = labelsIn profile; good = accepted-labels profile (sound-number (fine-is says e k)); tabled = fine-tabled says e k; small = small }
 
-pub include-stops : {profile classes : List ℕ} {judged : Judged} {labels keys : ℕ} → ProfileSays profile judged classes labels keys → {o : Outcome}
+pub include-stops : {profile classes : List ℕ} {judged : Judged} {second : Bool} {labels keys : ℕ} → ProfileSays profile judged classes second labels keys → {o : Outcome}
     → o ≡ outcomeOf 1 judged → {r : Refusal} (P Q : List ℕ) → o ≡ O.Refused r → Includes profile P Q (refusedBy (meant r) [])
 include-stops {profile} says e {r} P Q k = include-profile profile P Q (meant r) (refused-is says e k) (refused-names says e k)
 

@@ -1,6 +1,7 @@
 -- What the readers found, put into 01's order of refusals: the answer buffer's, the profile's, the question's.
 use Prim.Native.Nat.{ℕ, _≤_, _<_}
 use mathlib.Core.Path.{_≡_, sym, _∙_, subst}
+use mathlib.Core.Bool.{Bool}
 use mathlib.Core.List.{List}
 use native.Mathlib.Omega.{arith}
 use lib.ListN.{length}
@@ -27,7 +28,7 @@ pub decide-short : (profile question buffer : List ℕ) (r : Refusal) → length
 decide-short profile question buffer r h e =
     subst (λ (x : Table.Refusal). Decides profile question buffer (refusedBy x buffer)) (sym e) (decide-small profile question buffer h)
 
-module _ {profile classes : List ℕ} {judged : Judged} {labels keys : ℕ} (says : ProfileSays profile judged classes labels keys)
+module _ {profile classes : List ℕ} {judged : Judged} {newer : Bool} {before keys : ℕ} (says : ProfileSays profile judged classes newer before keys)
     {first : Outcome} (one : first ≡ outcomeOf 1 judged) (question : List ℕ) where
   pub decide-stops : {r : Refusal} (buffer : List ℕ) → 65536 ≤ length buffer → first ≡ O.Refused r
       → Decides profile question buffer (refusedBy (meant r) buffer)
@@ -46,12 +47,13 @@ module _ {profile classes : List ℕ} {judged : Judged} {labels keys : ℕ} (say
         decide-question profile question buffer room (fine-is says one fine) (meant r) (n .is ∙ asked-is) (omega (arith, n .named))
 
     -- what deciding is given
-    pub decide-given : second ≡ O.Fine → Given profile labels keys question classes
+    pub decide-given : second ≡ O.Fine → Given profile newer before keys question classes
     decide-given known =
         let p = sound-number (fine-is says one fine) in
         record {
           acceptedProfile = p;
-          labelCount = says .labelCount p;
+          edition = says .edition p;
+          beforeKeys = says .beforeKeys p;
           keyCount = says .keyCount p;
           tabled = says .tabled p;
           acceptedQuestion = sound-number (outcome-fine 2 asked two known ∙ asked-is);

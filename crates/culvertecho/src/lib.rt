@@ -33,7 +33,8 @@ pub fn decide(profile: &[u8], question: &[u8], answer: &mut [u8]) -> Deciding
     if let Outcome::Refused(refusal) = second {
         return Deciding::Refused(refusal);
     }
-    let labels = read.labels;
+    let newer = read.second;
+    let before = read.before;
     let keys = read.keys;
-    decide_accepted(profile, labels, keys, question, &classes, answer)
+    decide_accepted(profile, before, keys, question, &classes, newer, answer)
 }

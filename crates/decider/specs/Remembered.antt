@@ -1,12 +1,16 @@
 -- An accepted profile's keys stand where the writing of a proof looks them up: `Remembers` of proof_writing.
 use Prim.Native.Nat.{ℕ, suc, _+_, _≤_, _<_}
-use mathlib.Core.Path.{_≡_, sym, _∙_, ap, subst}
+use mathlib.Core.Path.{_≡_, refl, sym, _∙_, ap, subst}
+use mathlib.Core.Bool.{Bool, true, false, cond}
 use mathlib.Core.List.{List}
 use native.Mathlib.Omega.{arith}
+use lib.Dec.{eqb}
 use lib.ListN.{length, drop, length-drop}
-use Rattle.meaning.specs.Records.{recordLength, recordBody}
-use Rattle.meaning.specs.Refusals.{Profile, noProfile, firstOf, profileTests, profileNext, profileWalked, profileIn, profileRefusal, questionRefusal, questionIn}
+use Rattle.meaning.specs.Records.{recordLength, recordKind, recordBody}
+use Rattle.meaning.specs.Refusals.{Profile, noProfile, firstOf, profileTests, profileNext, whole, hasEdition, behindEdition, firstEntry, profileWalked, profileIn, profileRefusal, questionRefusal, questionIn}
 use Rattle.meaning.specs.Operations.{labelsIn, keysIn}
+use Rattle.theory_records.specs.Tests.{both}
+use Rattle.theory_records.specs.Heads.{whole-says}
 use Rattle.theory_records.specs.Walks.{walk-keeps}
 use Rattle.theory_records.specs.Encodings.{ends-key}
 use Rattle.theory_records.specs.Places.{key-place}
@@ -29,16 +33,27 @@ passed-more bytes n p l g h e =
     let left = length-drop (recordLength l) l in
     record { most = let m = g .most in omega arith }
 
+behind-few : (bytes : List ℕ) → firstEntry bytes + length (behindEdition bytes) ≤ length bytes
+unfolding firstEntry behindEdition
+behind-few bytes = go (hasEdition bytes) refl
+  where
+    go : (b : Bool) → hasEdition bytes ≡ b → cond b 1 0 + length (cond b (drop (recordLength bytes) bytes) bytes) ≤ length bytes
+    go false e = omega arith
+    go true e =
+        let p = both (whole bytes) (eqb (recordKind bytes) 6) (unfold hasEdition in e) in
+        let w = whole-says bytes (p .0) in
+        omega (arith, w .long, w .within, length-drop (recordLength bytes) bytes)
+
 walked-few : (bytes : List ℕ) → profileWalked bytes .at ≤ length bytes
 unfolding profileWalked
 walked-few bytes =
-    let w = walk-keeps profileTests profileNext (Passed bytes) profile-long (passed-more bytes) 0 noProfile bytes (record { most = omega arith }) in
+    let w = walk-keeps profileTests profileNext (Passed bytes) profile-long (passed-more bytes) (firstEntry bytes) noProfile (behindEdition bytes) (record { most = behind-few bytes }) in
     let m = w .held .most in
     omega arith
 
 module _ (profile question : List ℕ) (soundProfile : profileRefusal profile .number ≡ 0)
     (soundQuestion : questionRefusal (labelsIn profile) question .number ≡ 0) where
-  records-few : length (labelsIn profile) + length (keysIn profile) ≤ 16384
+  records-few : firstEntry profile + length (labelsIn profile) + length (keysIn profile) ≤ 16384
   unfolding labelsIn keysIn
   records-few =
       let a = profile-accepts profile soundProfile in
@@ -49,7 +64,7 @@ module _ (profile question : List ℕ) (soundProfile : profileRefusal profile .n
 
   pub remembered : (found : Found) → Chain (keysIn profile) (questionIn question) (found .u) (stepsBelow (found .steps) (found .count))
       → found .count ≤ 8
-      → Remembers (labelsIn profile) profile (length (labelsIn profile)) (keysIn profile) (recordBody question) (found .u) (found .steps) (found .count)
+      → Remembers (labelsIn profile) profile (firstEntry profile + length (labelsIn profile)) (keysIn profile) (recordBody question) (found .u) (found .steps) (found .count)
   unfolding citedKey questionIn
   remembered found chain few =
       let q = question-accepts (labelsIn profile) question soundQuestion in

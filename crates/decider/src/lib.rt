@@ -4,34 +4,65 @@ use answers::Deciding;
 use checks::profiles::body_at_front;
 use landings::chain_end;
 use proof_writing::write_proof;
+use shapes::classes::is_attribute;
+use shapes::fields::wide;
+use shapes::keys::context;
+use shapes::keys::target;
 use steps::search::find_steps;
 use tree_writing::write_tree;
-ghost use Prim.Native.Nat.{_≤_};
+ghost use Prim.Native.Nat.{_<_, _≤_};
+ghost use mathlib.Core.Bool.{true};
+ghost use Rattle.meaning.specs.Records.{readKey, keyIn, isSome};
+ghost use Rattle.shapes.specs.Classes.{classBy};
+ghost use Rattle.decider.specs.Upward.{stepsUp};
 ghost use mathlib.Core.Path.{_≡_};
 ghost use lib.ListN.{length};
 ghost use Rattle.meaning.specs.Operations.{Decides};
 ghost use Rattle.answers.specs.Cases.{decidingAnswer};
 ghost use Rattle.lines.specs.Checking.{Given};
 
-// "Implied with bytes used, not implied with bytes used": the steps lead from t to q exactly when u is t.
+// In edition 2 t, an attribute, steps to its parent u.
+fn steps_up(body: &[u8], u: usize, classes: &[u8; 256], second: bool) -> bool
+    requires { ⌜ (isSome (readKey (now body)) ≡ true) × (u < 65536) ⌝ }
+    ensures { λ r. ⌜ r ≡ stepsUp second (classBy (now (classes .entry))) (keyIn (now (body .entry))) u ⌝ }
+{
+    if !second {
+        return false;
+    }
+    let x = target(body);
+    if x.len() == 0 {
+        return false;
+    }
+    let c = context(body);
+    if u + 1 != c.len() + x.len() {
+        return false;
+    }
+    let last = wide(x[x.len() - 1]);
+    is_attribute(classes, last)
+}
+
+// "Implied with bytes used, not implied with bytes used": the steps lead from t to q exactly when u is t, or t steps to it.
 pub fn decide_accepted(
     profile: &[u8],
-    labels: usize,
+    before: usize,
     keys: usize,
     question: &[u8],
     classes: &[u8; 256],
+    second: bool,
     answer: &mut [u8],
 ) -> Deciding
-    requires { ⌜ Given (now profile) labels keys (now question) (now classes) × (length (now classes) ≡ 256) × (65536 ≤ length (now answer)) ⌝ }
+    requires { ⌜ Given (now profile) second before keys (now question) (now classes) × (length (now classes) ≡ 256) × (65536 ≤ length (now answer)) ⌝ }
     ensures { λ r. ⌜ Decides (now (profile .entry)) (now (question .entry)) (now (answer .entry)) (decidingAnswer r (now (answer .exit))) ⌝ }
 {
     let body = body_at_front(question);
-    let found = find_steps(profile, labels, keys, body);
+    let found = find_steps(profile, before, keys, body);
     let u = found.u;
     if u < chain_end(body) {
-        return Deciding::NotImplied(write_tree(answer, body, classes, u));
+        if !steps_up(body, u, classes, second) {
+            return Deciding::NotImplied(write_tree(answer, body, classes, u));
+        }
     }
     let steps = found.steps;
     let count = found.count;
-    Deciding::Implied(write_proof(answer, profile, labels, body, steps, count))
+    Deciding::Implied(write_proof(answer, profile, before, body, u, steps, count))
 }

@@ -1,10 +1,10 @@
 // The pattern of the asked key, drawn node after node: document 01, "The counterexample that is written".
+use shapes::classes::is_element;
 use shapes::fields::wide;
 use shapes::keys::context;
 use shapes::keys::count;
 use shapes::keys::path;
 use shapes::keys::target;
-use tree_nodes::fields::is_element;
 ghost use mathlib.Core.Path.{_≡_};
 ghost use mathlib.Core.Bool.{true, _&&_, _||_};
 ghost use Prim.Native.Nat.{_+_, _*_, _<_, _≤_};

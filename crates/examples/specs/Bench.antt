@@ -16,15 +16,16 @@ bench =
 abbrev pub key : List ℕ → List ℕ → List (List ℕ) → Key
 key c t s = record { context = c; target = t; paths = s }
 
--- A row: its letter, the profile's keys, the asked key, and whether 01 says I (implied) or N
+-- A row: its letter, whether the profile is of edition 2, the profile's keys, the asked key, and whether 01 says I (implied) or N
 pub record Row : Type 0 where
   pub letter : ℕ
+  pub second : Bool
   pub keys : List Key
   pub asked : Key
   pub implied : Bool
 
 abbrev pub row : ℕ → List Key → Key → Bool → Row
-row l ks k i = record { letter = l; keys = ks; asked = k; implied = i }
+row l ks k i = record { letter = l; second = false; keys = ks; asked = k; implied = i }
 
 abbrev pub e : List ℕ
 e = []
@@ -43,4 +44,6 @@ rows =
     ∷ row 107 (key e (3 ∷ []) ((4 ∷ []) ∷ []) ∷ []) (key e (3 ∷ []) ((4 ∷ 7 ∷ []) ∷ [])) false
     ∷ row 108 (key e (3 ∷ []) (e ∷ (4 ∷ []) ∷ []) ∷ []) (key e (3 ∷ []) (e ∷ (4 ∷ 7 ∷ []) ∷ [])) true
     ∷ row 109 [] (key (3 ∷ []) (6 ∷ []) (e ∷ [])) false
+    -- request 5: "Example m becomes implied in edition 2."
+    ∷ record { letter = 109; second = true; keys = []; asked = key (3 ∷ []) (6 ∷ []) (e ∷ []); implied = true }
     ∷ []

@@ -8,14 +8,15 @@ use lib.Dec.{T}
 use lib.ListN.{length}
 use Rattle.meaning.specs.Lists
 use Rattle.meaning.specs.Lists.{Each, end, also}
-use Rattle.meaning.specs.Paths.{member, front, anyEnd}
+use Rattle.meaning.specs.Paths
+use Rattle.meaning.specs.Paths.{member, front, anyEnd, singles, classOf}
 use Rattle.meaning.specs.Trees.{tableOf}
 use Rattle.meaning.specs.Pattern
 use Rattle.meaning.specs.Pattern.{qOf, tOf, Leads}
 use Rattle.theory_paths.specs.Bools.{and-left, and-right}
 use Rattle.theory_trees.specs.Climb.{reaches, reachesFrom}
-use Rattle.examples.specs.Bench.{Row, rows}
-use Rattle.examples.specs.StepTests.{Hop, route, border, landsTest, keyTest, parentsTest, route-leads, border-holds}
+use Rattle.examples.specs.Bench.{Row, bench, rows}
+use Rattle.examples.specs.StepTests.{Hop, route, border, landsTest, keyTest, upTest, stepTest, parentsTest, route-leads, border-holds}
 
 -- What shows a row's verdict: a route from t to q, or a border between them
 pub data Hint : Type 0 where
@@ -29,11 +30,15 @@ unfoldable pub hints : List Hint
 unfolding hop
 hints =
     by (hop 2 0 ∷ []) ∷ stuckAt 1 ∷ by (hop 2 0 ∷ []) ∷ stuckAt 1 ∷ by (hop 2 1 ∷ hop 1 0 ∷ []) ∷ by [] ∷ by (hop 2 0 ∷ []) ∷ stuckAt 1 ∷ stuckAt 1
-    ∷ stuckAt 1 ∷ by (hop 1 0 ∷ []) ∷ stuckAt 2 ∷ []
+    ∷ stuckAt 1 ∷ by (hop 1 0 ∷ []) ∷ stuckAt 2 ∷ by (hop 2 1 ∷ []) ∷ []
+
+-- the labels that are single in the row's edition
+unfoldable pub singleOf : Row → ℕ → Bool
+singleOf r = singles (r .second) (classOf bench)
 
 unfoldable pub shows : Row → Hint → Bool
-shows r (by hops) = r .implied && route (r .keys) (r .asked) (tOf (r .asked)) hops
-shows r (stuckAt m) = not (r .implied) && border (r .keys) (r .asked) m
+shows r (by hops) = r .implied && route (singleOf r) (r .keys) (r .asked) (tOf (r .asked)) hops
+shows r (stuckAt m) = not (r .implied) && border (singleOf r) (r .keys) (r .asked) m
 
 unfoldable pub allShown : List Row → List Hint → Bool
 allShown [] hs = true
@@ -43,8 +48,8 @@ allShown (r ∷ rs) (h ∷ hs) = shows r h && allShown rs hs
 -- the row's verdict is that of the steps
 unfoldable pub RowHolds : Row → Type 0
 RowHolds r =
-    (T (r .implied) → Leads (r .keys) (r .asked) (tOf (r .asked)) (qOf (r .asked)))
-    × (T (not (r .implied)) → Leads (r .keys) (r .asked) (tOf (r .asked)) (qOf (r .asked)) → ⊥)
+    (T (r .implied) → Leads (singleOf r) (r .keys) (r .asked) (tOf (r .asked)) (qOf (r .asked)))
+    × (T (not (r .implied)) → Leads (singleOf r) (r .keys) (r .asked) (tOf (r .asked)) (qOf (r .asked)) → ⊥)
 
 not-both : (b : Bool) → T b → T (not b) → ⊥
 not-both true p q = q
@@ -53,9 +58,9 @@ not-both false p q = p
 shown-holds : (r : Row) (h : Hint) → T (shows r h) → RowHolds r
 unfolding shows RowHolds
 shown-holds r (by hops) s =
-    (λ i. route-leads (r .keys) (r .asked) (tOf (r .asked)) hops (and-right (r .implied) _ s), λ n. absurd (not-both (r .implied) (and-left (r .implied) _ s) n))
+    (λ i. route-leads (singleOf r) (r .keys) (r .asked) (tOf (r .asked)) hops (and-right (r .implied) _ s), λ n. absurd (not-both (r .implied) (and-left (r .implied) _ s) n))
 shown-holds r (stuckAt m) s =
-    (λ i. absurd (not-both (r .implied) i (and-left (not (r .implied)) _ s)), λ n. border-holds (r .keys) (r .asked) m (and-right (not (r .implied)) _ s))
+    (λ i. absurd (not-both (r .implied) i (and-left (not (r .implied)) _ s)), λ n. border-holds (singleOf r) (r .keys) (r .asked) m (and-right (not (r .implied)) _ s))
 
 all-hold : (rs : List Row) (hs : List Hint) → T (allShown rs hs) → Each RowHolds rs
 unfolding allShown
@@ -64,7 +69,8 @@ all-hold (r ∷ rs) [] s = absurd s
 all-hold (r ∷ rs) (h ∷ hs) s = also (shown-holds r h (and-left (shows r h) _ s)) (all-hold rs hs (and-right (shows r h) _ s))
 
 pub steps-agree : Each RowHolds rows
-unfolding rows hints shows allShown route border landsTest keyTest parentsTest reaches reachesFrom member front anyEnd tableOf
+unfolding rows bench hints shows singleOf allShown route border landsTest keyTest upTest stepTest parentsTest Paths.singles Paths.classOf Paths.declaredClass
+    Paths.isAttribute reaches reachesFrom member front anyEnd tableOf
     Lists.every Lists.any Lists.isEmpty Lists.numbers Pattern.drawn Pattern.run Pattern.branches Pattern.qOf Pattern.tOf Pattern.patternNodes
     Pattern.pattern Pattern.ends Pattern.marked
 steps-agree = all-hold rows hints tt

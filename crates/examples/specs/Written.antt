@@ -14,7 +14,7 @@ use Rattle.meaning.specs.Listing.{block}
 use Rattle.examples.specs.Bench.{bench, label, rows, Row}
 
 abbrev noRow : Row
-noRow = record { letter = 0; keys = []; asked = record { context = []; target = []; paths = [] }; implied = Bool.false }
+noRow = record { letter = 0; second = Bool.false; keys = []; asked = record { context = []; target = []; paths = [] }; implied = Bool.false }
 
 unfoldable pub rowB : Row
 rowB = getD rows 1 noRow

@@ -18,3 +18,5 @@ pub const BAD_LABEL: usize = 3;
 pub const TOO_LARGE: usize = 7;
 
 pub const BAD_NODE: usize = 8;
+
+pub const REPEATED: usize = 16;

@@ -2,35 +2,38 @@
 use Prim.Native.Nat.{ℕ, zero, suc, _+_, _-_, _<_, _≤_}
 use mathlib.Core.Path.{_≡_, refl, sym, ap, ap₂, subst, _∙_}
 use mathlib.Core.Logic.{_⊎_, inl, inr}
-use mathlib.Core.Bool.{Bool, true, false, not}
+use mathlib.Core.Bool.{Bool, true, false, cond, _&&_, not}
 use mathlib.Core.List.{List, [], _∷_, _++_, append-assoc, append-nil}
 use mathlib.Core.Option.{Option, some, Option·some-injective, Option·none-ne-some}
 use native.Mathlib.Numerals.{add-one}
 use native.Mathlib.Omega.{arith}
 use native.Mathlib.Nat.{eq-or-lt-of-le, le-of-suc-le-suc}
-use lib.ListN.{length, take, drop, getElem?, length-append}
+use lib.Dec.{eqb}
+use lib.ListN.{length, getD, take, drop, getElem?, length-append}
 use borrow.Rule.Slice.PartAt.{part-to-end}
 use Rattle.meaning.specs.Lists.{end, same}
-use Rattle.meaning.specs.Paths.{Label}
+use Rattle.meaning.specs.Paths.{Label, Class, isAttribute, singles}
 use Rattle.meaning.specs.Keys.{Key}
 use Rattle.meaning.specs.Rules.{Line, lineKeys, FollowsAt, FollowsBelow, EndsWith}
 use Rattle.meaning.specs.Records.{word, recordLength, recordBody, readKey, keyIn, isSome, readLine, keyBody}
-use Rattle.meaning.specs.Refusals.{Walked, firstOf, walk, lineTests, proofWalked, profileRefusal, questionRefusal, questionIn}
-use Rattle.meaning.specs.Operations.{recordsFrom, Answer, refusedBy, plain, accepted, ProofJudged, unfollowed, faulty, otherEnd, proved, labelsIn, keysIn}
+use Rattle.meaning.specs.Refusals.{Walked, firstOf, walk, lineTests, proofWalked, profileRefusal, questionRefusal, questionIn, firstEntry}
+use Rattle.meaning.specs.Operations.{recordsFrom, Answer, refusedBy, plain, accepted, ProofJudged, unfollowed, faulty, otherEnd, proved, secondIn, singleIn, labelsIn, keysIn}
 use Rattle.theory_paths.specs.Good.{GoodLabels}
 use Rattle.theory_paths.specs.Bools.{same-eq, eq-same, of-true, of-false}
-use Rattle.theory_lines.specs.LineTest.{followsTest}
-use Rattle.theory_records.specs.Bytes.{Bytes, bytes-drop}
+use Rattle.theory_lines.specs.LineTest.{unused, followsTest}
+use Rattle.theory_lines.specs.EditionTest.{oneAttribute, tenthTest, followsInTest}
+use Rattle.theory_records.specs.Bytes.{Bytes, bytes-at, bytes-drop}
 use Rattle.theory_records.specs.Walks.{walk-step, walk-stop, walk-end, walk-keeps}
 use Rattle.theory_records.specs.Judged.{LineAccepted, line-accepted}
-use Rattle.theory_records.specs.Encodings.{ends-line, ends-key}
+use Rattle.theory_records.specs.Encodings.{ends-line, ends-key, bytes-body}
 use Rattle.theory_records.specs.Heads.{body-length}
 use Rattle.theory_records.specs.HeadTests.{body-part}
 use Rattle.theory_records.specs.KeyBodies.{key-in-written}
 use Rattle.theory_records.specs.Profiles.{each-more, length-more, accepted-labels}
 use Rattle.theory_records.specs.Questions.{LinesAt, lines-long, QuestionSound, question-accepts}
 use Rattle.theory_records.specs.Bodies.{records-next}
-use Rattle.shapes.specs.Classes.{Tabled}
+use Rattle.shapes.specs.Classes.{Tabled, classBy, class-tabled}
+use Rattle.shapes.specs.Tables.{bytes-key}
 use Rattle.records.specs.Keys.{lineTestsBy}
 use Rattle.records.specs.Agree.{line-agrees}
 use Rattle.judged.specs.declared.Judged.{Judged}
@@ -46,45 +49,59 @@ unfoldable pub checkedAnswer : Judged → Answer
 checkedAnswer Sound = plain accepted
 checkedAnswer (Refused number place) = refusedBy (record { number = number; input = 3; place = place }) []
 
--- what the check is given: an accepted profile, how many labels and keys it has, its classes, an accepted question
-pub record Given (profile : List ℕ) (labels keys : ℕ) (question classes : List ℕ) : Type 0 where
+-- what the check is given: an accepted profile, its edition, how many records stand before its keys and how many keys it has, its classes, an
+-- accepted question
+pub record Given (profile : List ℕ) (second : Bool) (before keys : ℕ) (question classes : List ℕ) : Type 0 where
   pub acceptedProfile : profileRefusal profile .number ≡ 0
-  pub labelCount : labels ≡ length (labelsIn profile)
+  pub edition : second ≡ secondIn profile
+  pub beforeKeys : before ≡ firstEntry profile + length (labelsIn profile)
   pub keyCount : keys ≡ length (keysIn profile)
   pub tabled : Tabled (labelsIn profile) classes
   pub acceptedQuestion : questionRefusal (labelsIn profile) question .number ≡ 0
 
-pub given-labels : {profile : List ℕ} {labels keys : ℕ} {question classes : List ℕ} → Given profile labels keys question classes → GoodLabels (labelsIn profile)
+pub given-labels : {profile : List ℕ} {second : Bool} {before keys : ℕ} {question classes : List ℕ} → Given profile second before keys question classes → GoodLabels (labelsIn profile)
 given-labels {profile} g = accepted-labels profile (g .acceptedProfile)
 
-pub given-question : {profile : List ℕ} {labels keys : ℕ} {question classes : List ℕ} → Given profile labels keys question classes
+pub given-question : {profile : List ℕ} {second : Bool} {before keys : ℕ} {question classes : List ℕ} → Given profile second before keys question classes
     → QuestionSound (labelsIn profile) question
 given-question {profile} {question = question} g = question-accepts (labelsIn profile) question (g .acceptedQuestion)
 
+-- the labels that are single, by the table
+pub given-single : {profile : List ℕ} {second : Bool} {before keys : ℕ} {question classes : List ℕ} → Given profile second before keys question classes
+    → (n : ℕ) → n < 256 → singles second (classBy classes) n ≡ singleIn profile n
+unfolding singles singleIn
+given-single {profile} g n h = ap₂ (λ (b : Bool) (k : Class). b && isAttribute k) (g .edition) (class-tabled (g .tabled) n h)
+
+one-agrees : (f g : ℕ → Bool) → ((n : ℕ) → n < 256 → f n ≡ g n) → (p : List ℕ) → ((i : ℕ) → getD p i 0 < 256) → oneAttribute f p ≡ oneAttribute g p
+unfolding oneAttribute
+one-agrees f g h [] small = refl
+one-agrees f g h (l ∷ []) small = h l (small 0)
+one-agrees f g h (l ∷ m ∷ p) small = refl
+
 -- the keys of the profile where the code finds them
-module _ {profile : List ℕ} {labels keys : ℕ} {question classes : List ℕ} (g : Given profile labels keys question classes)
-    {part : List ℕ} (e : part ≡ recordsFrom labels profile) where
+module _ {profile : List ℕ} {second : Bool} {before keys : ℕ} {question classes : List ℕ} (g : Given profile second before keys question classes)
+    {part : List ℕ} (e : part ≡ recordsFrom before profile) where
   pub part-keys : KeyRecords keys part
   part-keys =
       subst (λ (n : ℕ). KeyRecords n part) (sym (g .keyCount))
-      (subst (KeyRecords (length (keysIn profile))) (sym (e ∙ ap (λ (n : ℕ). recordsFrom n profile) (g .labelCount))) (profile-key-records profile))
+      (subst (KeyRecords (length (keysIn profile))) (sym (e ∙ ap (λ (n : ℕ). recordsFrom n profile) (g .beforeKeys))) (profile-key-records profile))
 
   pub part-are : keysFrom keys part ≡ keysIn profile
   part-are =
-      ap₂ keysFrom (g .keyCount) (e ∙ ap (λ (n : ℕ). recordsFrom n profile) (g .labelCount)) ∙ profile-keys-are profile
+      ap₂ keysFrom (g .keyCount) (e ∙ ap (λ (n : ℕ). recordsFrom n profile) (g .beforeKeys)) ∙ profile-keys-are profile
 
 -- after n lines: the rest of the proof, the walk that is left, and what holds of the lines read
-pub record Sofar (labels : List Label) (keys : List Key) (proof : List ℕ) (n : ℕ) (rest : List ℕ) : Type 0 where
+pub record Sofar (single : ℕ → Bool) (labels : List Label) (keys : List Key) (proof : List ℕ) (n : ℕ) (rest : List ℕ) : Type 0 where
   pub here : rest ≡ recordsFrom n proof
   pub small : Bytes rest
   pub walked : walk (lineTests labels) (λ (lines : List Line) (l : List ℕ). lines ++ (readLine (recordBody l) ∷ [])) 0 n (linesFrom n proof) rest ≡ proofWalked labels proof
   pub lines : LinesAt labels n (linesFrom n proof)
   pub earlier : Earlier n proof
-  pub follow : FollowsBelow labels keys (linesFrom n proof) n
+  pub follow : FollowsBelow single labels keys (linesFrom n proof) n
 
-pub sofar-start : (labels : List Label) (keys : List Key) (proof : List ℕ) → Bytes proof → Sofar labels keys proof 0 proof
+pub sofar-start : (single : ℕ → Bool) (labels : List Label) (keys : List Key) (proof : List ℕ) → Bytes proof → Sofar single labels keys proof 0 proof
 unfolding recordsFrom linesFrom proofWalked FollowsBelow
-sofar-start labels keys proof small =
+sofar-start single labels keys proof small =
     record {
       here = refl;
       small = small;
@@ -125,32 +142,32 @@ walk-extends labels base n l =
     .held
 
 -- one line more is there, and was given a number up to 6
-pub record LineJudged (labels : List Label) (keys : List Key) (proof classes : List ℕ) (n : ℕ) (rest : List ℕ) (number : ℕ) : Type 0 where
-  pub sofar : Sofar labels keys proof n rest
+pub record LineJudged (single : ℕ → Bool) (labels : List Label) (keys : List Key) (proof classes : List ℕ) (n : ℕ) (rest : List ℕ) (number : ℕ) : Type 0 where
+  pub sofar : Sofar single labels keys proof n rest
   pub tabled : Tabled labels classes
   pub isLine : 0 < length rest
   pub told : number ≡ firstOf (lineTestsBy classes n rest)
 
-module _ {labels : List Label} {keys : List Key} {proof classes : List ℕ} {n : ℕ} {rest : List ℕ} {number : ℕ}
-    (read : LineJudged labels keys proof classes n rest number) where
-  s : Sofar labels keys proof n rest
+module _ {single : ℕ → Bool} {labels : List Label} {keys : List Key} {proof classes : List ℕ} {n : ℕ} {rest : List ℕ} {number : ℕ}
+    (read : LineJudged single labels keys proof classes n rest number) where
+  s : Sofar single labels keys proof n rest
   s = read .sofar
 
   judged : number ≡ firstOf (lineTests labels (linesFrom n proof) rest)
   judged = read .told ∙ line-agrees (read .tabled) rest (s .small) n (linesFrom n proof) (s .lines .counted)
 
-  pub sofar-refused : (question : Key) → (number ≡ 0 → ⊥) → ProofJudged labels keys question (proofWalked labels proof) (checkedAnswer (Refused number n))
+  pub sofar-refused : (question : Key) → (number ≡ 0 → ⊥) → ProofJudged single labels keys question (proofWalked labels proof) (checkedAnswer (Refused number n))
   unfolding checkedAnswer
   sofar-refused question ne = go number refl
     where
-      go : (m : ℕ) → number ≡ m → ProofJudged labels keys question (proofWalked labels proof) (refusedBy (record { number = number; input = 3; place = n }) [])
+      go : (m : ℕ) → number ≡ m → ProofJudged single labels keys question (proofWalked labels proof) (refusedBy (record { number = number; input = 3; place = n }) [])
       go zero e = absurd (ne e)
       go (suc m) e =
-          subst (λ (w : Walked (List Line)). ProofJudged labels keys question w (refusedBy (record { number = number; input = 3; place = n }) []))
+          subst (λ (w : Walked (List Line)). ProofJudged single labels keys question w (refusedBy (record { number = number; input = 3; place = n }) []))
           (sym (walk-stop (lineTests labels) (λ (lines : List Line) (l : List ℕ). lines ++ (readLine (recordBody l) ∷ [])) n m (linesFrom n proof) rest (read .isLine)
           (sym judged ∙ e)) ∙ s .walked)
           (faulty
-          (subst (FollowsBelow labels keys (linesFrom n proof)) (s .lines .counted) (s .follow))
+          (subst (FollowsBelow single labels keys (linesFrom n proof)) (s .lines .counted) (s .follow))
           (omega arith)
           (ap (λ (j : ℕ). refusedBy (record { number = j; input = 3; place = n }) []) e))
 
@@ -187,13 +204,25 @@ module _ {labels : List Label} {keys : List Key} {proof classes : List ℕ} {n :
           subst LineBody (sym (body-part rest isEnd))
           (record { long = ends .0; key = line-key labels (drop 5 (recordBody rest)) (ends .1) (its .good) })
 
-      module _ (known : GoodLabels labels) {profileKeys : List Key} (are : profileKeys ≡ keys)
-          {r : Bool} (test : r ≡ followsTest profileKeys (lineKeys (linesFrom n proof)) (readLine (take (stop - 4) (drop 4 rest)))) where
-        tested : r ≡ followsTest keys (lineKeys (linesFrom n proof)) (readLine (recordBody rest))
-        tested =
-            test ∙ ap₂ (λ (ks : List Key) (b : List ℕ). followsTest ks (lineKeys (linesFrom n proof)) (readLine b)) are (body-part rest isEnd)
+      module _ (known : GoodLabels labels) {code : ℕ → Bool} (agree : (k : ℕ) → k < 256 → code k ≡ single k) {profileKeys : List Key}
+          (are : profileKeys ≡ keys)
+          {r : Bool} (test : r ≡ followsInTest code profileKeys (lineKeys (linesFrom n proof)) (readLine (take (stop - 4) (drop 4 rest)))) where
+        small-target : (i : ℕ) → getD (readLine (recordBody rest) .key .target) i 0 < 256
+        unfolding readLine
+        small-target =
+            bytes-key (drop 5 (recordBody rest)) (ends-line rest (its .isWhole) (its .kind) .1) (bytes-at (bytes-drop 5 (bytes-body rest (s .small)))) .target
 
-        pub sofar-next : not r ≡ false → {next : List ℕ} → next ≡ take (length rest - stop) (drop stop rest) → Sofar labels keys proof (n + 1) next
+        tested : r ≡ followsInTest single keys (lineKeys (linesFrom n proof)) (readLine (recordBody rest))
+        unfolding followsInTest tenthTest
+        tested =
+            test ∙ ap₂ (λ (ks : List Key) (b : List ℕ). followsInTest code ks (lineKeys (linesFrom n proof)) (readLine b)) are (body-part rest isEnd)
+            ∙ ap
+            (λ (b : Bool).
+            cond (eqb (readLine (recordBody rest) .rule) 10) (unused (readLine (recordBody rest) .first) && (unused (readLine (recordBody rest) .second) && b))
+            (followsTest keys (lineKeys (linesFrom n proof)) (readLine (recordBody rest))))
+            (one-agrees code single agree (readLine (recordBody rest) .key .target) small-target)
+
+        pub sofar-next : not r ≡ false → {next : List ℕ} → next ≡ take (length rest - stop) (drop stop rest) → Sofar single labels keys proof (n + 1) next
         unfolding recordLength
         sofar-next t {next} q =
             let at : drop (recordLength rest) rest ≡ recordsFrom (suc n) proof =
@@ -216,15 +245,15 @@ module _ {labels : List Label} {keys : List Key} {proof classes : List ℕ} {n :
               earlier = record { each = λ i h. each i (eq-or-lt-of-le (le-of-suc-le-suc h)) };
               follow =
                   rw more
-                  (below-more labels keys (linesFrom n proof) (readLine (recordBody rest)) n (s .lines .counted) (s .follow)
-                  (told-follows labels known keys (linesFrom n proof) (s .lines .good) (readLine (recordBody rest)) (its .good) tested t));
+                  (below-more single labels keys (linesFrom n proof) (readLine (recordBody rest)) n (s .lines .counted) (s .follow)
+                  (told-follows single labels known keys (linesFrom n proof) (s .lines .good) (readLine (recordBody rest)) (its .good) tested t));
             })
           where
             each : (i : ℕ) → (i ≡ n) ⊎ (i < n) → LineRecord (recordsFrom i proof)
             each i (inl e) = subst LineRecord (s .here ∙ ap (λ (j : ℕ). recordsFrom j proof) (sym e)) (line-record labels (linesFrom n proof) rest its)
             each i (inr h) = s .earlier .each i h
 
-        pub sofar-unfollowed : (question : Key) → not r ≡ true → ProofJudged labels keys question (proofWalked labels proof) (checkedAnswer (Refused 9 n))
+        pub sofar-unfollowed : (question : Key) → not r ≡ true → ProofJudged single labels keys question (proofWalked labels proof) (checkedAnswer (Refused 9 n))
         unfolding checkedAnswer
         sofar-unfollowed question t =
             let x = walk-extends labels (linesFrom n proof ++ (readLine (recordBody rest) ∷ [])) (suc n) (drop (recordLength rest) rest) in
@@ -232,12 +261,12 @@ module _ {labels : List Label} {keys : List Key} {proof classes : List ℕ} {n :
             ap (λ (w : Walked (List Line)). w .state) (sym step) ∙ x .is ∙ append-assoc (linesFrom n proof) (readLine (recordBody rest) ∷ []) (x .more) in
             unfollowed n
             (omega (arith, s .lines .counted, ap length state, length-append (linesFrom n proof) (readLine (recordBody rest) ∷ x .more)))
-            (subst (λ (l : List Line). FollowsBelow labels keys l n) (sym state)
-            (still-below labels keys (linesFrom n proof) (readLine (recordBody rest) ∷ x .more) n (omega (arith, s .lines .counted)) (s .follow)))
-            (λ f. told-not labels known keys (linesFrom n proof) (s .lines .good) (readLine (recordBody rest)) (its .good) tested t
-            (new-did-follow labels keys (linesFrom n proof) (readLine (recordBody rest)) (x .more)
-            (subst (λ (j : ℕ). FollowsAt labels keys (linesFrom n proof ++ (readLine (recordBody rest) ∷ x .more)) j) (s .lines .counted)
-            (subst (λ (l : List Line). FollowsAt labels keys l n) state f))))
+            (subst (λ (l : List Line). FollowsBelow single labels keys l n) (sym state)
+            (still-below single labels keys (linesFrom n proof) (readLine (recordBody rest) ∷ x .more) n (omega (arith, s .lines .counted)) (s .follow)))
+            (λ f. told-not single labels known keys (linesFrom n proof) (s .lines .good) (readLine (recordBody rest)) (its .good) tested t
+            (new-did-follow single labels keys (linesFrom n proof) (readLine (recordBody rest)) (x .more)
+            (subst (λ (j : ℕ). FollowsAt single labels keys (linesFrom n proof ++ (readLine (recordBody rest) ∷ x .more)) j) (s .lines .counted)
+            (subst (λ (l : List Line). FollowsAt single labels keys l n) state f))))
             refl
 
 -- a question that was accepted, as the comparison asks it
@@ -246,7 +275,7 @@ pub record IsQuestion (question : List ℕ) : Type 0 where
   pub within : recordLength question ≤ length question
   pub shape : isSome (readKey (recordBody question)) ≡ true
 
-pub given-is : {profile : List ℕ} {labels keys : ℕ} {question classes : List ℕ} → Given profile labels keys question classes → IsQuestion question
+pub given-is : {profile : List ℕ} {second : Bool} {before keys : ℕ} {question classes : List ℕ} → Given profile second before keys question classes → IsQuestion question
 given-is {question = question} g =
     let q = given-question g in
     record { long = q .isWhole .long; within = q .isWhole .within; shape = ends-key question (q .isWhole) (q .kind) }
@@ -306,12 +335,12 @@ module _ (lines : ℕ) (proof question : List ℕ) (asked : IsQuestion question)
       ∙ key-in-written (recordBody question) (asked .shape))))
       refl
 
-pub sofar-done : {labels : List Label} {keys : List Key} {proof : List ℕ} {n : ℕ} {rest : List ℕ} → Sofar labels keys proof n rest → length rest ≤ 0
+pub sofar-done : {single : ℕ → Bool} {labels : List Label} {keys : List Key} {proof : List ℕ} {n : ℕ} {rest : List ℕ} → Sofar single labels keys proof n rest → length rest ≤ 0
     → {question : Key} {r : Judged} → LastTold (getElem? (lineKeys (linesFrom n proof)) (n - 1)) question (n - 1) r
-    → ProofJudged labels keys question (proofWalked labels proof) (checkedAnswer r)
+    → ProofJudged single labels keys question (proofWalked labels proof) (checkedAnswer r)
 unfolding checkedAnswer EndsWith
-sofar-done {labels} {keys} {proof} {n} {rest} s h {question} {r} told =
-    subst (λ (w : Walked (List Line)). ProofJudged labels keys question w (checkedAnswer r)) whole (go told)
+sofar-done {single} {labels} {keys} {proof} {n} {rest} s h {question} {r} told =
+    subst (λ (w : Walked (List Line)). ProofJudged single labels keys question w (checkedAnswer r)) whole (go told)
   where
     empty : (l : List ℕ) → length l ≤ 0 → l ≡ []
     empty [] h = refl
@@ -326,13 +355,13 @@ sofar-done {labels} {keys} {proof} {n} {rest} s h {question} {r} told =
         ∙ ap (walk (lineTests labels) (λ (lines : List Line) (l : List ℕ). lines ++ (readLine (recordBody l) ∷ [])) 0 n (linesFrom n proof)) (sym (empty rest h))
         ∙ s .walked
 
-    all : FollowsBelow labels keys (linesFrom n proof) (length (linesFrom n proof))
-    all = subst (FollowsBelow labels keys (linesFrom n proof)) (s .lines .counted) (s .follow)
+    all : FollowsBelow single labels keys (linesFrom n proof) (length (linesFrom n proof))
+    all = subst (FollowsBelow single labels keys (linesFrom n proof)) (s .lines .counted) (s .follow)
 
     place : n - 1 ≡ length (linesFrom n proof) - 1
     place = ap (λ (j : ℕ). j - 1) (s .lines .counted)
 
-    go : LastTold (getElem? (lineKeys (linesFrom n proof)) (n - 1)) question (n - 1) r → ProofJudged labels keys question stopped (checkedAnswer r)
+    go : LastTold (getElem? (lineKeys (linesFrom n proof)) (n - 1)) question (n - 1) r → ProofJudged single labels keys question stopped (checkedAnswer r)
     go (ends e q) = proved all refl (ap (getElem? (lineKeys (linesFrom n proof))) (sym place) ∙ e) (ap checkedAnswer q)
     go (other e q) =
         otherEnd all refl (λ x. e (ap (getElem? (lineKeys (linesFrom n proof))) place ∙ x))

@@ -14,10 +14,10 @@ use Rattle.meaning.specs.Limits.{inProof}
 use Rattle.meaning.specs.Lists.{Each, end, also}
 use Rattle.meaning.specs.Paths.{Label}
 use Rattle.meaning.specs.Keys.{Key}
-use Rattle.meaning.specs.Rules.{Line, Follows, lineKeys, FollowsAt, FollowsBelow}
+use Rattle.meaning.specs.Rules.{Line, FollowsIn, lineKeys, FollowsAt, FollowsBelow}
 use Rattle.theory_paths.specs.Good.{GoodLabels, GoodKey}
 use Rattle.theory_paths.specs.Bools.{of-true, of-false}
-use Rattle.theory_lines.specs.LineTest.{followsTest, test-follows, follows-test}
+use Rattle.theory_lines.specs.EditionTest.{followsInTest, test-follows-in, follows-in-test}
 
 pub getElem-append : {A : Type 0} (xs ys : List A) (i : ℕ) → i < length xs → getElem? (xs ++ ys) i ≡ getElem? xs i
 getElem-append [] ys i h = absurd (omega arith)
@@ -33,51 +33,51 @@ unfolding lineKeys
 good-keys end = end
 good-keys (also g gs) = also g (good-keys gs)
 
-module _ (labels : List Label) (keys : List Key) where
-  pub still-follows : (base more : List Line) (i : ℕ) → i < length base → FollowsAt labels keys base i → FollowsAt labels keys (base ++ more) i
+module _ (single : ℕ → Bool) (labels : List Label) (keys : List Key) where
+  pub still-follows : (base more : List Line) (i : ℕ) → i < length base → FollowsAt single labels keys base i → FollowsAt single labels keys (base ++ more) i
   still-follows base more i h f =
       record {
         line = f .line;
         stands = getElem-append base more i h ∙ f .stands;
         follows =
-            subst (λ (l : List Line). Follows labels keys (lineKeys l) (f .line)) (sym (take-append-le i base more (omega arith))) (f .follows);
+            subst (λ (l : List Line). FollowsIn single labels keys (lineKeys l) (f .line)) (sym (take-append-le i base more (omega arith))) (f .follows);
       }
 
-  pub still-below : (base more : List Line) (n : ℕ) → n ≤ length base → FollowsBelow labels keys base n → FollowsBelow labels keys (base ++ more) n
+  pub still-below : (base more : List Line) (n : ℕ) → n ≤ length base → FollowsBelow single labels keys base n → FollowsBelow single labels keys (base ++ more) n
   unfolding FollowsBelow
   still-below base more n h f = λ i less. still-follows base more i (omega arith) (f i less)
 
-  pub new-follows : (base : List Line) (line : Line) (more : List Line) → Follows labels keys (lineKeys base) line
-      → FollowsAt labels keys (base ++ (line ∷ more)) (length base)
+  pub new-follows : (base : List Line) (line : Line) (more : List Line) → FollowsIn single labels keys (lineKeys base) line
+      → FollowsAt single labels keys (base ++ (line ∷ more)) (length base)
   new-follows base line more f =
       record {
         line = line;
         stands = getElem-seam base line more;
-        follows = subst (λ (l : List Line). Follows labels keys (lineKeys l) line) (sym (take-append-seam base (line ∷ more))) f;
+        follows = subst (λ (l : List Line). FollowsIn single labels keys (lineKeys l) line) (sym (take-append-seam base (line ∷ more))) f;
       }
 
-  pub new-did-follow : (base : List Line) (line : Line) (more : List Line) → FollowsAt labels keys (base ++ (line ∷ more)) (length base)
-      → Follows labels keys (lineKeys base) line
+  pub new-did-follow : (base : List Line) (line : Line) (more : List Line) → FollowsAt single labels keys (base ++ (line ∷ more)) (length base)
+      → FollowsIn single labels keys (lineKeys base) line
   new-did-follow base line more f =
       let e : f .line ≡ line = Option·some-injective _ _ (sym (f .stands) ∙ getElem-seam base line more) in
-      subst (λ (x : Line). Follows labels keys (lineKeys base) x) e
-      (subst (λ (l : List Line). Follows labels keys (lineKeys l) (f .line)) (take-append-seam base (line ∷ more)) (f .follows))
+      subst (λ (x : Line). FollowsIn single labels keys (lineKeys base) x) e
+      (subst (λ (l : List Line). FollowsIn single labels keys (lineKeys l) (f .line)) (take-append-seam base (line ∷ more)) (f .follows))
 
-  pub below-more : (base : List Line) (line : Line) (n : ℕ) → n ≡ length base → FollowsBelow labels keys base n → Follows labels keys (lineKeys base) line
-      → FollowsBelow labels keys (base ++ (line ∷ [])) (suc n)
+  pub below-more : (base : List Line) (line : Line) (n : ℕ) → n ≡ length base → FollowsBelow single labels keys base n → FollowsIn single labels keys (lineKeys base) line
+      → FollowsBelow single labels keys (base ++ (line ∷ [])) (suc n)
   unfolding FollowsBelow
   below-more base line n e f g = λ i h. go i (eq-or-lt-of-le (le-of-suc-le-suc h))
     where
-      go : (i : ℕ) → (i ≡ n) ⊎ (i < n) → FollowsAt labels keys (base ++ (line ∷ [])) i
-      go i (inl q) = subst (λ (j : ℕ). FollowsAt labels keys (base ++ (line ∷ [])) j) (sym (q ∙ e)) (new-follows base line [] g)
+      go : (i : ℕ) → (i ≡ n) ⊎ (i < n) → FollowsAt single labels keys (base ++ (line ∷ [])) i
+      go i (inl q) = subst (λ (j : ℕ). FollowsAt single labels keys (base ++ (line ∷ [])) j) (sym (q ∙ e)) (new-follows base line [] g)
       go i (inr h) = still-follows base (line ∷ []) i (omega arith) (f i h)
 
 -- what the test says
-module _ (labels : List Label) (known : GoodLabels labels) (keys : List Key) (lines : List Line)
+module _ (single : ℕ → Bool) (labels : List Label) (known : GoodLabels labels) (keys : List Key) (lines : List Line)
     (good : Each (λ (x : Line). GoodKey labels inProof (x .key)) lines) (line : Line) (goodLine : GoodKey labels inProof (line .key))
-    {r : Bool} (e : r ≡ followsTest keys (lineKeys lines) line) where
-  pub told-follows : not r ≡ false → Follows labels keys (lineKeys lines) line
-  told-follows t = test-follows labels known inProof keys (lineKeys lines) (good-keys good) line goodLine (of-true _ (sym e ∙ not-false _ t))
+    {r : Bool} (e : r ≡ followsInTest single keys (lineKeys lines) line) where
+  pub told-follows : not r ≡ false → FollowsIn single labels keys (lineKeys lines) line
+  told-follows t = test-follows-in single labels known inProof keys (lineKeys lines) (good-keys good) line goodLine (of-true _ (sym e ∙ not-false _ t))
 
-  pub told-not : not r ≡ true → Follows labels keys (lineKeys lines) line → ⊥
-  told-not t f = of-false _ (sym e ∙ not-true _ t) (follows-test labels known inProof keys (lineKeys lines) (good-keys good) line goodLine f)
+  pub told-not : not r ≡ true → FollowsIn single labels keys (lineKeys lines) line → ⊥
+  told-not t f = of-false _ (sym e ∙ not-true _ t) (follows-in-test single labels known inProof keys (lineKeys lines) (good-keys good) line goodLine f)

@@ -3,3 +3,4 @@ pub mod ProfileKeys
 pub mod ProofLines
 pub mod Following
 pub mod Checking
+pub mod Tenth

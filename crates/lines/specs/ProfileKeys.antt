@@ -1,4 +1,4 @@
--- The keys of an accepted profile stand behind its labels, one record each.
+-- The keys of an accepted profile stand behind its edition and its labels, one record each.
 use Prim.Native.Nat.{ℕ, zero, suc, _+_, _<_}
 use mathlib.Core.Path.{_≡_, refl, sym, ap, subst, _∙_}
 use mathlib.Core.Logic.{_⊎_, inl, inr, ⊎-elim}
@@ -8,13 +8,13 @@ use native.Mathlib.Nat.{eq-or-lt-of-le, le-of-suc-le-suc}
 use lib.ListN.{length, drop}
 use Rattle.meaning.specs.Keys.{Key}
 use Rattle.meaning.specs.Records.{recordLength, recordBody, readLabel, keyIn}
-use Rattle.meaning.specs.Refusals.{Profile, noProfile, firstOf, profileTests, profileNext, profileWalked, profileIn}
+use Rattle.meaning.specs.Refusals.{Profile, noProfile, firstOf, profileTests, profileNext, behindEdition, firstEntry, profileWalked, profileIn}
 use Rattle.meaning.specs.Operations.{recordsFrom, labelsIn, keysIn}
 use Rattle.theory_records.specs.Walks.{Stopped, walk-keeps}
 use Rattle.theory_records.specs.Encodings.{ends-key}
 use Rattle.theory_records.specs.Judged.{LabelAccepted, KeyRecordAccepted, profile-accepted}
 use Rattle.theory_records.specs.Profiles.{length-more, next-label, next-key, profile-long}
-use Rattle.theory_records.specs.Bodies.{records-next, records-add}
+use Rattle.theory_records.specs.Bodies.{records-next, records-add, behind-here}
 use Rattle.lines.specs.Premises.{keysFrom, KeyRecord, KeyRecords}
 
 pub keys-more : (n : ℕ) (l : List ℕ) → keysFrom (suc n) l ≡ keysFrom n l ++ (keyIn (recordBody (recordsFrom n l)) ∷ [])
@@ -25,11 +25,11 @@ keys-more (suc n) l = ap (λ (ks : List Key). keyIn (recordBody l) ∷ ks) (keys
 -- what holds after n records
 record KeysAt (bytes : List ℕ) (n : ℕ) (p : Profile) (rest : List ℕ) : Type 0 where
   here : rest ≡ recordsFrom n bytes
-  counted : n ≡ length (p .labels) + length (p .keys)
-  are : keysFrom (length (p .keys)) (recordsFrom (length (p .labels)) bytes) ≡ p .keys
-  records : KeyRecords (length (p .keys)) (recordsFrom (length (p .labels)) bytes)
+  counted : n ≡ firstEntry bytes + length (p .labels) + length (p .keys)
+  are : keysFrom (length (p .keys)) (recordsFrom (firstEntry bytes + length (p .labels)) bytes) ≡ p .keys
+  records : KeyRecords (length (p .keys)) (recordsFrom (firstEntry bytes + length (p .labels)) bytes)
 
-none-read : (bytes : List ℕ) (n : ℕ) (p : Profile) (rest : List ℕ) → rest ≡ recordsFrom n bytes → n ≡ length (p .labels) → p .keys ≡ [] → KeysAt bytes n p rest
+none-read : (bytes : List ℕ) (n : ℕ) (p : Profile) (rest : List ℕ) → rest ≡ recordsFrom n bytes → n ≡ firstEntry bytes + length (p .labels) → p .keys ≡ [] → KeysAt bytes n p rest
 unfolding keysFrom
 none-read bytes n p rest h c e =
     record {
@@ -58,9 +58,9 @@ keys-kept bytes n p l g h e =
     (omega (arith, g .counted, ap length (a .beforeKeys), length-more (p .labels) (readLabel (recordBody l))))
     (a .beforeKeys)))
     (λ (a : KeyRecordAccepted p l).
-    let part : List ℕ = recordsFrom (length (p .labels)) bytes in
+    let part : List ℕ = recordsFrom (firstEntry bytes + length (p .labels)) bytes in
     let m : ℕ = length (p .keys) in
-    let stands : l ≡ recordsFrom m part = g .here ∙ ap (λ (j : ℕ). recordsFrom j bytes) (g .counted) ∙ records-add (length (p .labels)) m bytes in
+    let stands : l ≡ recordsFrom m part = g .here ∙ ap (λ (j : ℕ). recordsFrom j bytes) (g .counted) ∙ records-add (firstEntry bytes + length (p .labels)) m bytes in
     let more : length (p .keys ++ (keyIn (recordBody l) ∷ [])) ≡ suc m = length-more (p .keys) (keyIn (recordBody l)) in
     let key : KeyRecord l = record { long = a .isWhole .long; within = a .isWhole .within; shape = ends-key l (a .isWhole) (a .kind) } in
     rw (next-key p l (a .kind))
@@ -79,14 +79,14 @@ keys-kept bytes n p l g h e =
 at-stop : (bytes : List ℕ) → Stopped profileTests (KeysAt bytes) (profileWalked bytes)
 unfolding profileWalked
 at-stop bytes =
-    walk-keeps profileTests profileNext (KeysAt bytes) profile-long (keys-kept bytes) 0 noProfile bytes
-    (none-read bytes 0 noProfile bytes (unfold recordsFrom in refl) refl refl)
+    walk-keeps profileTests profileNext (KeysAt bytes) profile-long (keys-kept bytes) (firstEntry bytes) noProfile (behindEdition bytes)
+    (none-read bytes (firstEntry bytes) noProfile (behindEdition bytes) (behind-here bytes) (omega arith) refl)
 
 -- "Rule 0 cites key number *first premise* of the profile": the keys behind the labels are the profile's
-pub profile-keys-are : (bytes : List ℕ) → keysFrom (length (keysIn bytes)) (recordsFrom (length (labelsIn bytes)) bytes) ≡ keysIn bytes
+pub profile-keys-are : (bytes : List ℕ) → keysFrom (length (keysIn bytes)) (recordsFrom (firstEntry bytes + length (labelsIn bytes)) bytes) ≡ keysIn bytes
 unfolding keysIn labelsIn profileIn
 profile-keys-are bytes = at-stop bytes .held .are
 
-pub profile-key-records : (bytes : List ℕ) → KeyRecords (length (keysIn bytes)) (recordsFrom (length (labelsIn bytes)) bytes)
+pub profile-key-records : (bytes : List ℕ) → KeyRecords (length (keysIn bytes)) (recordsFrom (firstEntry bytes + length (labelsIn bytes)) bytes)
 unfolding keysIn labelsIn profileIn
 profile-key-records bytes = at-stop bytes .held .records

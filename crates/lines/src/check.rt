@@ -13,7 +13,7 @@ ghost use Prim.Native.Nat.{_-_};
 ghost use lib.ListN.{getElem?};
 ghost use Rattle.meaning.specs.Rules.{lineKeys};
 ghost use Rattle.meaning.specs.Refusals.{questionIn, proofWalked};
-ghost use Rattle.meaning.specs.Operations.{ProofJudged, labelsIn, keysIn};
+ghost use Rattle.meaning.specs.Operations.{ProofJudged, singleIn, labelsIn, keysIn};
 ghost use Rattle.lines.specs.Premises.{linesFrom, Earlier};
 ghost use Rattle.lines.specs.Checking.{Given, IsQuestion, LastTold, checkedAnswer};
 
@@ -39,19 +39,20 @@ fn last_is(proof: &[u8], lines: usize, question: &[u8]) -> Judged
     Judged::Refused(OTHER_END, last)
 }
 
-// A whole proof, under an accepted profile with so many labels and keys and an accepted question.
+// A whole proof, under an accepted profile with so many records before its keys and so many keys, and an accepted question.
 pub fn check_lines(
     profile: &[u8],
-    labels: usize,
+    before: usize,
     keys: usize,
     question: &[u8],
     proof: &[u8],
     classes: &[u8; 256],
+    second: bool,
 ) -> Judged
-    requires { ⌜ Given (now profile) labels keys (now question) (now classes) ⌝ }
-    ensures { λ r. ⌜ ProofJudged (labelsIn (now (profile .entry))) (keysIn (now (profile .entry))) (questionIn (now (question .entry))) (proofWalked (labelsIn (now (profile .entry))) (now (proof .entry))) (checkedAnswer r) ⌝ }
+    requires { ⌜ Given (now profile) second before keys (now question) (now classes) ⌝ }
+    ensures { λ r. ⌜ ProofJudged (singleIn (now (profile .entry))) (labelsIn (now (profile .entry))) (keysIn (now (profile .entry))) (questionIn (now (question .entry))) (proofWalked (labelsIn (now (profile .entry))) (now (proof .entry))) (checkedAnswer r) ⌝ }
 {
-    let part = record_at(profile, labels);
+    let part = record_at(profile, before);
     let mut rest = proof;
     let mut n = 0;
     while 0 < rest.len() {
@@ -60,7 +61,15 @@ pub fn check_lines(
             return Judged::Refused(number, n);
         }
         let end = word(rest, 0);
-        if !follows(part, keys, proof, n, &rest[HEAD_BYTES..end]) {
+        if !follows(
+            part,
+            keys,
+            proof,
+            n,
+            &rest[HEAD_BYTES..end],
+            classes,
+            second,
+        ) {
             return Judged::Refused(UNFOLLOWED, n);
         }
         rest = &rest[end..];

@@ -11,6 +11,7 @@ use rule_tests::rules::subnodes_epsilon;
 use rule_tests::rules::superkey;
 use rule_tests::rules::target_path;
 use shapes::bodies::LINE_FIELDS;
+use shapes::classes::is_attribute;
 use shapes::fields::HEAD_BYTES;
 use shapes::fields::wide;
 use shapes::fields::word;
@@ -23,7 +24,10 @@ ghost use Rattle.meaning.specs.Lists.{isEmpty};
 ghost use Rattle.meaning.specs.Records.{readKey, keyIn, isSome, readLine, recordBody};
 ghost use Rattle.meaning.specs.Rules.{lineKeys};
 ghost use Rattle.meaning.specs.Operations.{recordsFrom};
+ghost use Rattle.meaning.specs.Paths.{singles};
+ghost use Rattle.shapes.specs.Classes.{classBy};
 ghost use Rattle.theory_lines.specs.LineTest.{followsTest};
+ghost use Rattle.theory_lines.specs.EditionTest.{tenthTest, followsInTest};
 ghost use Rattle.rule_tests.specs.Parts.{LineKey, LineKeys};
 ghost use Rattle.lines.specs.Premises.{keysFrom, linesFrom, KeyRecords, LineRecord, Earlier, LineBody, oneTest, cited, byOne, byTwo};
 
@@ -55,6 +59,8 @@ const CONTEXT_TARGET: usize = 7;
 const SUBNODES_EPSILON: usize = 8;
 
 const INTERACTION: usize = 9;
+
+const ONE_ATTRIBUTE: usize = 10;
 
 // "Rule 0 cites key number *first premise* of the profile": equal keys are equal bodies.
 fn cites(part: &[u8], keys: usize, first: usize, k: &[u8]) -> bool
@@ -123,8 +129,9 @@ fn by_two(proof: &[u8], number: usize, first: usize, second: usize, k: &[u8]) ->
     interaction(p, r, k)
 }
 
-// Line `number` with this body follows from the profile's keys, which stand in `part`, and the lines before it in the proof.
-pub fn follows(part: &[u8], keys: usize, proof: &[u8], number: usize, body: &[u8]) -> bool
+// By a rule of both editions, line `number` with this body follows from the profile's keys, which stand in `part`, and the lines before it in the
+// proof.
+fn by_shared(part: &[u8], keys: usize, proof: &[u8], number: usize, body: &[u8]) -> bool
     requires { ⌜ KeyRecords keys (now part) × Earlier number (now proof) × LineBody (now body) ⌝ }
     ensures { λ r. ⌜ r ≡ followsTest (keysFrom keys (now (part .entry))) (lineKeys (linesFrom number (now (proof .entry)))) (readLine (now (body .entry))) ⌝ }
 {
@@ -148,4 +155,46 @@ pub fn follows(part: &[u8], keys: usize, proof: &[u8], number: usize, body: &[u8
         return false;
     }
     target(k).len() == 0
+}
+
+// "a tenth rule accepts without premise any key whose target is a single attribute label", in edition 2
+fn by_attribute(body: &[u8], classes: &[u8; 256], second: bool) -> bool
+    requires { ⌜ LineBody (now body) ⌝ }
+    ensures { λ r. ⌜ r ≡ tenthTest (singles second (classBy (now (classes .entry)))) (readLine (now (body .entry))) ⌝ }
+{
+    let first = word(body, FIRST_AT);
+    if first != NO_NUMBER {
+        return false;
+    }
+    let other = word(body, SECOND_AT);
+    if other != NO_NUMBER {
+        return false;
+    }
+    let t = target(&body[LINE_FIELDS..]);
+    if t.len() != 1 {
+        return false;
+    }
+    if !second {
+        return false;
+    }
+    is_attribute(classes, wide(t[0]))
+}
+
+// Line `number` with this body follows, in edition 2 or 1.
+pub fn follows(
+    part: &[u8],
+    keys: usize,
+    proof: &[u8],
+    number: usize,
+    body: &[u8],
+    classes: &[u8; 256],
+    second: bool,
+) -> bool
+    requires { ⌜ KeyRecords keys (now part) × Earlier number (now proof) × LineBody (now body) ⌝ }
+    ensures { λ r. ⌜ r ≡ followsInTest (singles second (classBy (now (classes .entry)))) (keysFrom keys (now (part .entry))) (lineKeys (linesFrom number (now (proof .entry)))) (readLine (now (body .entry))) ⌝ }
+{
+    if wide(body[0]) == ONE_ATTRIBUTE {
+        return by_attribute(body, classes, second);
+    }
+    by_shared(part, keys, proof, number, body)
 }

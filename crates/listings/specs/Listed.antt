@@ -1,6 +1,7 @@
 -- One law for each return of the listing: what the readers and the writer found, put into the laws of `theory_checks`.
 use Prim.Native.Nat.{ℕ, _≤_, _<_}
 use mathlib.Core.Path.{_≡_, refl, sym, _∙_, ap, ap₂, subst}
+use mathlib.Core.Bool.{Bool}
 use mathlib.Core.List.{List, [], _∷_, _++_}
 use native.Mathlib.Omega.{arith}
 use lib.ListN.{length, drop}
@@ -8,7 +9,7 @@ use Rattle.meaning.specs.Paths.{Label}
 use Rattle.meaning.specs.Refusals.{sound, treeRefusal, nodesIn}
 use Rattle.meaning.specs.Refusals as Table
 use Rattle.meaning.specs.Listing.{block}
-use Rattle.meaning.specs.Operations.{Answer, Lists, refusedBy, filled, listed, labelsIn}
+use Rattle.meaning.specs.Operations.{Answer, Lists, refusedBy, filled, listed, secondIn, labelsIn}
 use Rattle.shapes.specs.Classes.{Tabled, classBy}
 use Rattle.judged.specs.Answers.{refusalOf}
 use Rattle.judged.specs.declared.Judged.{Judged}
@@ -25,44 +26,49 @@ use Rattle.theory_files.specs.Files.{class-same, file-table, tree-bytes}
 use Rattle.tree_nodes.specs.FileTable.{fileTable, TreeBytes}
 use Rattle.writing.specs.Wrote.{Wrote, wrote-front}
 use Rattle.tree_listing.specs.Lines.{blockOf, block-is}
-use Rattle.checks.specs.Found.{Ready, Tables, refused-is, refused-names}
+use Rattle.checks.specs.Found.{ReadyIn, Tables, refused-is, refused-names}
 
 pub small-lists : (profile tree : List ℕ) (k : ℕ) (buffer : List ℕ) (r : Refusal) → length buffer < 65536
     → meant r ≡ record { number = 14; input = 4; place = 0 } → Lists profile tree k buffer (refusedBy (meant r) buffer)
 small-lists profile tree k buffer r h e =
     subst (λ (x : Table.Refusal). Lists profile tree k buffer (refusedBy x buffer)) (sym e) (list-small profile tree k buffer h)
 
-pub list-stops : {profile classes : List ℕ} {judged : Judged} {labels keys : ℕ} → ProfileSays profile judged classes labels keys → {o : Outcome}
+pub list-stops : {profile classes : List ℕ} {judged : Judged} {second : Bool} {labels keys : ℕ} → ProfileSays profile judged classes second labels keys → {o : Outcome}
     → o ≡ outcomeOf 1 judged → {r : Refusal} (tree : List ℕ) (k : ℕ) (buffer : List ℕ) → 65536 ≤ length buffer → o ≡ O.Refused r
     → Lists profile tree k buffer (refusedBy (meant r) buffer)
 list-stops {profile} says e {r} tree k buffer h x = list-profile profile tree k buffer h (meant r) (refused-is says e x) (refused-names says e x)
 
-module _ (tree classes : List ℕ) (judged : Judged) (says : (labels : List Label) → Tabled labels classes → refusalOf 3 judged ≡ treeRefusal labels tree)
+module _ (tree classes : List ℕ) (second : Bool) (judged : Judged)
+    (says : (labels : List Label) → Tabled labels classes → refusalOf 3 judged ≡ treeRefusal second labels tree)
     {o : Outcome} (e : o ≡ outcomeOf 3 judged) where
-  pub tree-stops : {r : Refusal} (k : ℕ) (buffer : List ℕ) → 65536 ≤ length buffer → o ≡ O.Refused r → (profile : List ℕ) → Ready profile classes
+  says-in : {profile : List ℕ} → ReadyIn profile classes second → refusalOf 3 judged ≡ treeRefusal (secondIn profile) (labelsIn profile) tree
+  says-in {profile} ready =
+      says (labelsIn profile) (ready .ready .tabled) ∙ ap (λ (b : Bool). treeRefusal b (labelsIn profile) tree) (ready .edition)
+
+  pub tree-stops : {r : Refusal} (k : ℕ) (buffer : List ℕ) → 65536 ≤ length buffer → o ≡ O.Refused r → (profile : List ℕ) → ReadyIn profile classes second
       → Lists profile tree k buffer (refusedBy (meant r) buffer)
   tree-stops {r} k buffer h x profile ready =
       let n = outcome-refused 3 judged e x .named in
-      list-tree profile tree k buffer h (meant r) (ready .accepted) (outcome-refused 3 judged e x .is ∙ says (labelsIn profile) (ready .tabled)) (omega arith)
+      list-tree profile tree k buffer h (meant r) (ready .ready .accepted) (outcome-refused 3 judged e x .is ∙ says-in ready) (omega arith)
 
   -- the tree is one of the class table's
   pub tree-ready : Tables classes → o ≡ O.Fine → TreeBytes classes tree
   tree-ready tables x =
-      tree-bytes (tables .labels) tree (sound-number (outcome-fine 3 judged e x ∙ says (tables .labels) (tables .tabled))) (tables .good) classes (tables .small)
+      tree-bytes second (tables .labels) tree (sound-number (outcome-fine 3 judged e x ∙ says (tables .labels) (tables .tabled))) (tables .good) classes (tables .small)
       (tables .tabled)
 
   pub tree-lists : Tables classes → (k : ℕ) (buffer after : List ℕ) (used : ℕ) → 65536 ≤ length buffer → o ≡ O.Fine
-      → Wrote buffer after 0 (blockOf (classBy classes) (fileTable tree) k) used → (profile : List ℕ) → Ready profile classes
+      → Wrote buffer after 0 (blockOf (classBy classes) (fileTable tree) k) used → (profile : List ℕ) → ReadyIn profile classes second
       → Lists profile tree k buffer (record { verdict = listed; number = 0; input = 0; place = 0; used = used; buffer = after })
   unfolding filled
   tree-lists tables k buffer after used h x wrote profile ready =
-      let accepted : sound ≡ treeRefusal (labelsIn profile) tree = outcome-fine 3 judged e x ∙ says (labelsIn profile) (ready .tabled) in
-      let same : blockOf (classBy classes) (fileTable tree) k ≡ block (labelsIn profile) (nodesIn (labelsIn profile) tree) k =
+      let accepted : sound ≡ treeRefusal (secondIn profile) (labelsIn profile) tree = outcome-fine 3 judged e x ∙ says-in ready in
+      let same : blockOf (classBy classes) (fileTable tree) k ≡ block (labelsIn profile) (nodesIn (secondIn profile) (labelsIn profile) tree) k =
       ap₂ (λ κ t. blockOf κ t k)
-      (class-same (labelsIn profile) (accepted-labels profile (sound-number (ready .accepted))) classes (tables .small) (ready .tabled))
-      (file-table (labelsIn profile) tree (sound-number accepted))
-      ∙ sym (block-is (labelsIn profile) (nodesIn (labelsIn profile) tree) k) in
+      (class-same (labelsIn profile) (accepted-labels profile (sound-number (ready .ready .accepted))) classes (tables .small) (ready .ready .tabled))
+      (file-table (secondIn profile) (labelsIn profile) tree (sound-number accepted))
+      ∙ sym (block-is (labelsIn profile) (nodesIn (secondIn profile) (labelsIn profile) tree) k) in
       let w = wrote-front wrote in
       subst (λ (a : Answer). Lists profile tree k buffer a)
       (ap (λ (v : List ℕ). filled listed v buffer) (sym same) ∙ ap₂ (λ (n : ℕ) (b : List ℕ). usedOf listed n b) (sym (w .0)) (sym (w .1)))
-      (list-block profile tree k buffer h (ready .accepted) accepted)
+      (list-block profile tree k buffer h (ready .ready .accepted) accepted)

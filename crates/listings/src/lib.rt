@@ -13,15 +13,21 @@ ghost use Prim.Native.Nat.{ℕ, _≤_};
 ghost use mathlib.Core.List.{List};
 ghost use lib.ListN.{length};
 ghost use Rattle.meaning.specs.Operations.{Lists};
-ghost use Rattle.checks.specs.Found.{Ready, Tables};
+ghost use Rattle.checks.specs.Found.{ReadyIn, Tables};
 ghost use Rattle.answers.specs.Cases.{listingAnswer};
 
-// The answer for a tree under an accepted profile, of which only the class table is needed.
-fn list_tree(tree: &[u8], block: usize, answer: &mut [u8], classes: &[u8; 256]) -> Listing
+// The answer for a tree under an accepted profile, of which only the class table and the edition are needed.
+fn list_tree(
+    tree: &[u8],
+    block: usize,
+    answer: &mut [u8],
+    classes: &[u8; 256],
+    second: bool,
+) -> Listing
     requires { ⌜ Tables (now classes) × (65536 ≤ length (now answer)) ⌝ }
-    ensures { λ r. ⌜ ((profile : List ℕ) → Ready profile (now (classes .entry)) → Lists profile (now (tree .entry)) block (now (answer .entry)) (listingAnswer r (now (answer .exit)))) ⌝ }
+    ensures { λ r. ⌜ ((profile : List ℕ) → ReadyIn profile (now (classes .entry)) second → Lists profile (now (tree .entry)) block (now (answer .entry)) (listingAnswer r (now (answer .exit)))) ⌝ }
 {
-    let judged = read_tree(tree, classes);
+    let judged = read_tree(tree, classes, second);
     let outcome = of_input(judged, TREE_OR_PROOF);
     match outcome {
         Outcome::Refused(refusal) => Listing::Refused(refusal),
@@ -39,9 +45,10 @@ pub fn list_block(profile: &[u8], tree: &[u8], block: usize, answer: &mut [u8]) 
     let read = read_profile(profile);
     let judged = read.judged;
     let classes = read.classes;
+    let second = read.second;
     let outcome = of_input(judged, PROFILE);
     match outcome {
         Outcome::Refused(refusal) => Listing::Refused(refusal),
-        Outcome::Fine => list_tree(tree, block, answer, &classes),
+        Outcome::Fine => list_tree(tree, block, answer, &classes, second),
     }
 }

@@ -1,10 +1,11 @@
 -- Keys, keeping and implication: document 01, "Trees, paths and keys", and 001, Definition 1.
 use Prim.Native.Nat.{ℕ}
 use mathlib.Core.Logic.{_≢_}
+use mathlib.Core.Bool.{Bool}
 use mathlib.Core.List.{List}
 use Rattle.meaning.specs.Lists.{Each}
-use Rattle.meaning.specs.Paths.{Class, Label, Agrees}
-use Rattle.meaning.specs.Trees.{Table, IsTree, Reached, Equal}
+use Rattle.meaning.specs.Paths.{Class, Label, Agrees, singles}
+use Rattle.meaning.specs.Trees.{Table, IsTree, Once, Reached, Equal}
 
 -- "A key is (C, (T, S)): context C, target T, a set S of one or more simple key paths."
 pub record Key : Type 0 where
@@ -36,7 +37,7 @@ pub record Breaks (κ : ℕ → Class) (t : Table) (key : Key) : Type 0 where
 unfoldable pub Keeps : (ℕ → Class) → Table → Key → Type 0
 Keeps κ t key = Breaks κ t key → ⊥
 
--- "every finite tree, of any size, labels and values, that keeps the profile keeps the key"
-unfoldable pub Implied : List Label → List Key → Key → Type 0
-Implied labels keys key =
-    (κ : ℕ → Class) → Agrees labels κ → (t : Table) → IsTree κ t → Each (Keeps κ t) keys → Keeps κ t key
+-- "every finite tree, of any size, labels and values, that keeps the profile keeps the key"; the trees are those of the edition
+unfoldable pub Implied : Bool → List Label → List Key → Key → Type 0
+Implied second labels keys key =
+    (κ : ℕ → Class) → Agrees labels κ → (t : Table) → IsTree κ t → Once (singles second κ) t → Each (Keeps κ t) keys → Keeps κ t key

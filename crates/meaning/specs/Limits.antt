@@ -37,6 +37,13 @@ lineKind = 4
 abbrev pub wideKind : ℕ
 wideKind = 5
 
+-- "A profile of edition 2 begins with a record of kind 6, one byte, 2"
+abbrev pub editionKind : ℕ
+editionKind = 6
+
+abbrev pub secondEdition : ℕ
+secondEdition = 2
+
 abbrev pub elementClass : ℕ
 elementClass = 1
 

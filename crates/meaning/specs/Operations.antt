@@ -8,7 +8,7 @@ use mathlib.Core.Option.{some}
 use lib.ListN.{length, take, drop, getElem?}
 use Rattle.meaning.specs.Limits.{proofBytes}
 use Rattle.meaning.specs.Lists.{Each}
-use Rattle.meaning.specs.Paths.{Label, classOf, Included}
+use Rattle.meaning.specs.Paths.{Label, classOf, singles, Included}
 use Rattle.meaning.specs.Trees.{Table, tableOf}
 use Rattle.meaning.specs.Keys.{Key, Breaks, Keeps, Implied}
 use Rattle.meaning.specs.Rules.{Line, FollowsAt, FollowsBelow, EndsWith}
@@ -57,6 +57,13 @@ labelsIn profile = profileIn profile .labels
 unfoldable pub keysIn : List ℕ → List Key
 keysIn profile = profileIn profile .keys
 
+-- whether the profile is of edition 2, and which labels are single there
+unfoldable pub secondIn : List ℕ → Bool
+secondIn profile = Refusals.hasEdition profile
+
+unfoldable pub singleIn : List ℕ → ℕ → Bool
+singleIn profile = singles (secondIn profile) (classOf (labelsIn profile))
+
 -- "read and rewrite a profile"; "profiles read and written back are the same bytes"
 unfoldable pub Rewrites : (profile buffer : List ℕ) → Answer → Type 0
 Rewrites profile buffer =
@@ -83,7 +90,7 @@ Includes profile P Q =
 
 -- the tree that a file says
 unfoldable pub treeIn : (profile tree : List ℕ) → Table
-treeIn profile tree = tableOf (nodesIn (labelsIn profile) tree)
+treeIn profile tree = tableOf (nodesIn (secondIn profile) (labelsIn profile) tree)
 
 unfoldable pub KeepsIn : (profile tree : List ℕ) → Key → Type 0
 KeepsIn profile tree key = Keeps (classOf (labelsIn profile)) (treeIn profile tree) key
@@ -94,7 +101,7 @@ BreaksIn profile tree key = Breaks (classOf (labelsIn profile)) (treeIn profile 
 -- the refusals of profile, question and tree in their order
 unfoldable pub treeRefusals : (profile question tree : List ℕ) → List Refusal
 treeRefusals profile question tree =
-    profileRefusal profile ∷ questionRefusal (labelsIn profile) question ∷ treeRefusal (labelsIn profile) tree ∷ []
+    profileRefusal profile ∷ questionRefusal (labelsIn profile) question ∷ treeRefusal (secondIn profile) (labelsIn profile) tree ∷ []
 
 -- "test whether a tree keeps a key"
 unfoldable pub TestsTree : (profile question tree : List ℕ) → Answer → Type 0
@@ -106,16 +113,16 @@ TestsTree profile question tree =
 
 -- The lines of a proof judged from the front: the first that does not follow is refused by 9, else the first that is not a line by its own
 -- number, else the proof by 10 where its last key is not the question, else it is accepted
-pub data ProofJudged (labels : List Label) (keys : List Key) (question : Key) (walked : Walked (List Line)) (answer : Answer) : Type 0 where
-  unfollowed : (n : ℕ) → n < length (walked .state) → FollowsBelow labels keys (walked .state) n → (FollowsAt labels keys (walked .state) n → ⊥)
-      → answer ≡ refusedBy (record { number = 9; input = 3; place = n }) [] → ProofJudged labels keys question walked answer
-  faulty : FollowsBelow labels keys (walked .state) (length (walked .state)) → 0 < walked .number
-      → answer ≡ refusedBy (record { number = walked .number; input = 3; place = walked .at }) [] → ProofJudged labels keys question walked answer
-  otherEnd : FollowsBelow labels keys (walked .state) (length (walked .state)) → walked .number ≡ 0 → (EndsWith (walked .state) question → ⊥)
+pub data ProofJudged (single : ℕ → Bool) (labels : List Label) (keys : List Key) (question : Key) (walked : Walked (List Line)) (answer : Answer) : Type 0 where
+  unfollowed : (n : ℕ) → n < length (walked .state) → FollowsBelow single labels keys (walked .state) n → (FollowsAt single labels keys (walked .state) n → ⊥)
+      → answer ≡ refusedBy (record { number = 9; input = 3; place = n }) [] → ProofJudged single labels keys question walked answer
+  faulty : FollowsBelow single labels keys (walked .state) (length (walked .state)) → 0 < walked .number
+      → answer ≡ refusedBy (record { number = walked .number; input = 3; place = walked .at }) [] → ProofJudged single labels keys question walked answer
+  otherEnd : FollowsBelow single labels keys (walked .state) (length (walked .state)) → walked .number ≡ 0 → (EndsWith (walked .state) question → ⊥)
       → answer ≡ refusedBy (record { number = 10; input = 3; place = length (walked .state) - 1 }) []
-      → ProofJudged labels keys question walked answer
-  proved : FollowsBelow labels keys (walked .state) (length (walked .state)) → walked .number ≡ 0 → EndsWith (walked .state) question
-      → answer ≡ plain accepted → ProofJudged labels keys question walked answer
+      → ProofJudged single labels keys question walked answer
+  proved : FollowsBelow single labels keys (walked .state) (length (walked .state)) → walked .number ≡ 0 → EndsWith (walked .state) question
+      → answer ≡ plain accepted → ProofJudged single labels keys question walked answer
 
 -- "check a proof"
 unfoldable pub ChecksProof : (profile question proof : List ℕ) → Answer → Type 0
@@ -123,7 +130,7 @@ ChecksProof profile question proof =
     Unless
     (profileRefusal profile ∷ questionRefusal (labelsIn profile) question ∷ Refusals.oversize 3 proofBytes proof ∷ [])
     []
-    (ProofJudged (labelsIn profile) (keysIn profile) (questionIn question) (proofWalked (labelsIn profile) proof))
+    (ProofJudged (singleIn profile) (labelsIn profile) (keysIn profile) (questionIn question) (proofWalked (labelsIn profile) proof))
 
 -- "check a counterexample": 12 "(input 1, as record the lowest such key number)", then 13
 pub data CounterexampleJudged (profile question tree : List ℕ) (answer : Answer) : Type 0 where
@@ -142,22 +149,22 @@ ChecksCounterexample profile question tree =
 -- "list a block of a tree"; input 2 is not there
 unfoldable pub Lists : (profile tree : List ℕ) (k : ℕ) (buffer : List ℕ) → Answer → Type 0
 Lists profile tree k buffer =
-    Unless (answerRefusal buffer ∷ profileRefusal profile ∷ treeRefusal (labelsIn profile) tree ∷ []) buffer
-    (λ answer. answer ≡ filled listed (block (labelsIn profile) (nodesIn (labelsIn profile) tree) k) buffer)
+    Unless (answerRefusal buffer ∷ profileRefusal profile ∷ treeRefusal (secondIn profile) (labelsIn profile) tree ∷ []) buffer
+    (λ answer. answer ≡ filled listed (block (labelsIn profile) (nodesIn (secondIn profile) (labelsIn profile) tree) k) buffer)
 
 -- "decide a question". Implied: the first `used` bytes of the buffer are a proof that the check accepts. Not implied: they are the tree
 -- that is fixed, which the check accepts. (11 is retired: the tree has at most 178 nodes)
 pub record ProofWritten (profile question buffer : List ℕ) (answer : Answer) : Type 0 where
-  pub holds : Implied (labelsIn profile) (keysIn profile) (questionIn question)
+  pub holds : Implied (secondIn profile) (labelsIn profile) (keysIn profile) (questionIn question)
   pub bytes : List ℕ
   pub checked : ChecksProof profile question bytes (plain accepted)
   pub answered : answer ≡ filled implied bytes buffer
   pub fits : length bytes ≤ length buffer
 
 pub record TreeWritten (profile question buffer : List ℕ) (answer : Answer) : Type 0 where
-  pub fails : Implied (labelsIn profile) (keysIn profile) (questionIn question) → ⊥
+  pub fails : Implied (secondIn profile) (labelsIn profile) (keysIn profile) (questionIn question) → ⊥
   pub u : ℕ
-  pub isU : IsU (keysIn profile) (questionIn question) u
+  pub isU : IsU (singleIn profile) (keysIn profile) (questionIn question) u
   pub checked : ChecksCounterexample profile question (writtenTree (classOf (labelsIn profile)) (questionIn question) u) (plain accepted)
   pub answered : answer ≡ filled notImplied (writtenTree (classOf (labelsIn profile)) (questionIn question) u) buffer
 

@@ -42,6 +42,10 @@ classOf labels n = cond (eqb n textLabel) text (cond (eqb n fillerAttribute) att
 unfoldable pub isLabel : List Label → ℕ → Bool
 isLabel labels n = eqb n textLabel || declared labels n || eqb n fillerElement || eqb n fillerAttribute
 
+-- Labels that stand at most once under an element: in edition 2 each attribute name, in edition 1 none
+unfoldable pub singles : Bool → (ℕ → Class) → ℕ → Bool
+singles second κ n = second && isAttribute (κ n)
+
 -- A class function on all labels agrees with a profile: on text, the declared labels, the fillers and the root
 unfoldable pub Agrees : List Label → (ℕ → Class) → Type 0
 Agrees labels κ = (n : ℕ) → T (isLabel labels n || eqb n rootLabel) → κ n ≡ classOf labels n

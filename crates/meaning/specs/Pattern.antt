@@ -59,23 +59,24 @@ pub record Lands (asked : Key) (x : ℕ) (path : List ℕ) : Type 0 where
   pub reached : Reached (pattern asked) x path mark
 
 -- "Pattern nodes may step to their children. A profile key also lets w' step to w where w is reached by its context, w' from w by its
--- target, and from w' each key path reaches a marked node."
-pub data Step (keys : List Key) (asked : Key) (x y : ℕ) : Type 0 where
-  toChild : Child (pattern asked) x y → Step keys asked x y
+-- target, and from w' each key path reaches a marked node." In edition 2 "an attribute node may step to its parent"
+pub data Step (single : ℕ → Bool) (keys : List Key) (asked : Key) (x y : ℕ) : Type 0 where
+  toChild : Child (pattern asked) x y → Step single keys asked x y
+  toParent : T (single (pattern asked .label x)) → Child (pattern asked) y x → Step single keys asked x y
   byKey : (k : Key) → List·Memᴰ k keys → Reached (pattern asked) 0 (k .context) y → Reached (pattern asked) y (k .target) x
-      → Each (Lands asked x) (k .paths) → Step keys asked x y
+      → Each (Lands asked x) (k .paths) → Step single keys asked x y
 
 -- "these steps lead from t to q"
-pub data Leads (keys : List Key) (asked : Key) : ℕ → ℕ → Type 0 where
-  arrived : {x z : ℕ} → x ≡ z → Leads keys asked x z
-  onward : {x z : ℕ} (y : ℕ) → Step keys asked x y → Leads keys asked y z → Leads keys asked x z
+pub data Leads (single : ℕ → Bool) (keys : List Key) (asked : Key) : ℕ → ℕ → Type 0 where
+  arrived : {x z : ℕ} → x ≡ z → Leads single keys asked x z
+  onward : {x z : ℕ} (y : ℕ) → Step single keys asked x y → Leads single keys asked y z → Leads single keys asked x z
 
 -- "u is the lowest node from q to t that still leads to q"
-pub record IsU (keys : List Key) (asked : Key) (u : ℕ) : Type 0 where
+pub record IsU (single : ℕ → Bool) (keys : List Key) (asked : Key) (u : ℕ) : Type 0 where
   pub fromQ : qOf asked ≤ u
   pub toT : u ≤ tOf asked
-  pub leads : Leads keys asked u (qOf asked)
-  pub lowest : (v : ℕ) → u < v → v ≤ tOf asked → Leads keys asked v (qOf asked) → ⊥
+  pub leads : Leads single keys asked u (qOf asked)
+  pub lowest : (v : ℕ) → u < v → v ≤ tOf asked → Leads single keys asked v (qOf asked) → ⊥
 
 -- A node of the tree before values are given: where the pattern's nodes stand once "each element is followed at once by a filler attribute"
 pub record Dressed : Type 0 where

@@ -5,7 +5,7 @@ use mathlib.Core.List.{List, [], _∷_, _++_, map, flatten}
 use mathlib.Core.Option.{Option, none, some, Option·getD}
 use lib.Dec.{leb, eqb}
 use lib.ListN.{length, getD, take, drop}
-use Rattle.meaning.specs.Limits.{labelKind, keyKind, nodeKind, lineKind, wideKind, headBytes, nodeFields, lineFields}
+use Rattle.meaning.specs.Limits.{labelKind, keyKind, nodeKind, lineKind, wideKind, editionKind, headBytes, nodeFields, lineFields}
 use Rattle.meaning.specs.Paths.{Label}
 use Rattle.meaning.specs.Trees.{Node}
 use Rattle.meaning.specs.Keys.{Key}
@@ -120,4 +120,5 @@ bodyEnds kind body =
     cond (eqb kind labelKind) (leb 2 (length body))
     (cond (eqb kind keyKind) (isSome (readKey body))
     (cond (eqb kind nodeKind || eqb kind wideKind) (eqb (length body) (nodeFields + valueBytes kind))
-    (cond (eqb kind lineKind) (leb lineFields (length body) && isSome (readKey (drop lineFields body))) true)))
+    (cond (eqb kind lineKind) (leb lineFields (length body) && isSome (readKey (drop lineFields body)))
+    (cond (eqb kind editionKind) (eqb (length body) 1) true))))

@@ -8,7 +8,7 @@ use lib.ListN.{length, getD, drop}
 use Rattle.meaning.specs.Limits
 use Rattle.meaning.specs.Limits.{KeyLimits, inProfile, inProof}
 use Rattle.meaning.specs.Lists.{every, any, isEmpty, same, ascending}
-use Rattle.meaning.specs.Paths.{Label, declared, isLabel, classOf, isElement, normal, simple, join, valid}
+use Rattle.meaning.specs.Paths.{Label, declared, isLabel, classOf, singles, isElement, normal, simple, join, valid}
 use Rattle.meaning.specs.Trees.{Node, noNode}
 use Rattle.meaning.specs.Keys.{Key}
 use Rattle.meaning.specs.Rules.{Line}
@@ -127,8 +127,24 @@ profileNext p l =
     (record { labels = p .labels ++ (readLabel (recordBody l) ∷ []); keys = p .keys })
     (record { labels = p .labels; keys = p .keys ++ (keyIn (recordBody l) ∷ []) })
 
+-- "A profile of edition 2 begins with a record of kind 6, one byte, 2; without it the profile is edition 1." Labels and keys stand behind it
+unfoldable pub hasEdition : List ℕ → Bool
+hasEdition bytes = whole bytes && eqb (recordKind bytes) Limits.editionKind
+
+unfoldable pub behindEdition : List ℕ → List ℕ
+behindEdition bytes = cond (hasEdition bytes) (drop (recordLength bytes) bytes) bytes
+
+-- the number of the record that stands there
+unfoldable pub firstEntry : List ℕ → ℕ
+firstEntry bytes = cond (hasEdition bytes) 1 0
+
 unfoldable pub profileWalked : List ℕ → Walked Profile
-profileWalked bytes = walk profileTests profileNext 0 0 noProfile bytes
+profileWalked bytes = walk profileTests profileNext 0 (firstEntry bytes) noProfile (behindEdition bytes)
+
+-- 3: "an edition byte other than 2 is refused by 3"
+unfoldable pub editionRefusal : List ℕ → Refusal
+editionRefusal bytes =
+    cond (hasEdition bytes && not (eqb (getD (recordBody bytes) 0 0) Limits.secondEdition)) (record { number = 3; input = 1; place = 0 }) sound
 
 -- what the bytes of an accepted profile say
 unfoldable pub profileIn : List ℕ → Profile
@@ -141,7 +157,7 @@ oversize input limit bytes = cond (ltb limit (length bytes)) (record { number = 
 unfoldable pub profileRefusal : List ℕ → Refusal
 profileRefusal bytes =
     let w = profileWalked bytes in
-    firstRefusal (oversize 1 Limits.profileBytes bytes ∷ record { number = w .number; input = 1; place = w .at } ∷ [])
+    firstRefusal (oversize 1 Limits.profileBytes bytes ∷ editionRefusal bytes ∷ record { number = w .number; input = 1; place = w .at } ∷ [])
 
 -- "A question is one key record." 1: "question is empty"; 2: "a second question record", after its own 1
 unfoldable pub questionTests : List Label → List Key → List ℕ → List (ℕ × Bool)
@@ -178,22 +194,27 @@ nodeKindIn bytes = cond (leb Limits.headBytes (length bytes) && eqb (recordKind 
 unfoldable pub treeLimit : ℕ → ℕ
 treeLimit kind = cond (eqb kind Limits.wideKind) Limits.wideTreeBytes Limits.treeBytes
 
-unfoldable pub treeTests : ℕ → List Label → List Node → List ℕ → List (ℕ × Bool)
-treeTests kind labels nodes l =
+-- 16: "repeated attribute": a node before it has its name, which is single, and its parent
+unfoldable pub repeated : (ℕ → Bool) → List Node → Node → Bool
+repeated single nodes n = single (n .label) && any (λ (m : Node). eqb (m .parent) (n .parent) && eqb (m .label) (n .label)) nodes
+
+unfoldable pub treeTests : Bool → ℕ → List Label → List Node → List ℕ → List (ℕ × Bool)
+treeTests second kind labels nodes l =
     (7, tooMany kind Limits.treeNodes (length nodes) l) ∷ (1, not (whole l)) ∷ (2, not (eqb (recordKind l) kind))
-    ∷ (8, not (cond (isEmpty nodes) (goodRoot (readNode (recordBody l))) (goodBelow labels nodes (readNode (recordBody l))))) ∷ []
+    ∷ (8, not (cond (isEmpty nodes) (goodRoot (readNode (recordBody l))) (goodBelow labels nodes (readNode (recordBody l)))))
+    ∷ (16, repeated (singles second (classOf labels)) nodes (readNode (recordBody l))) ∷ []
 
-unfoldable pub treeWalked : List Label → List ℕ → Walked (List Node)
-treeWalked labels bytes =
-    walk (treeTests (nodeKindIn bytes) labels) (λ (nodes : List Node) (l : List ℕ). nodes ++ (readNode (recordBody l) ∷ [])) 0 0 [] bytes
+unfoldable pub treeWalked : Bool → List Label → List ℕ → Walked (List Node)
+treeWalked second labels bytes =
+    walk (treeTests second (nodeKindIn bytes) labels) (λ (nodes : List Node) (l : List ℕ). nodes ++ (readNode (recordBody l) ∷ [])) 0 0 [] bytes
 
-unfoldable pub nodesIn : List Label → List ℕ → List Node
-nodesIn labels bytes = treeWalked labels bytes .state
+unfoldable pub nodesIn : Bool → List Label → List ℕ → List Node
+nodesIn second labels bytes = treeWalked second labels bytes .state
 
 -- 8: "tree empty"
-unfoldable pub treeRefusal : List Label → List ℕ → Refusal
-treeRefusal labels bytes =
-    let w = treeWalked labels bytes in
+unfoldable pub treeRefusal : Bool → List Label → List ℕ → Refusal
+treeRefusal second labels bytes =
+    let w = treeWalked second labels bytes in
     firstRefusal
     (oversize 3 (treeLimit (nodeKindIn bytes)) bytes ∷ record { number = w .number; input = 3; place = w .at }
     ∷ cond (isEmpty bytes) (record { number = 8; input = 3; place = 0 }) sound ∷ [])

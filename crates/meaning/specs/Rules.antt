@@ -1,6 +1,7 @@
 -- The rules of inference: document 01, "Rules of inference (001, Table 2)". "Parts not mentioned are unchanged."
 use Prim.Native.Nat.{ℕ, _<_, _-_}
 use mathlib.Core.Path.{_≡_}
+use mathlib.Core.Bool.{Bool}
 use mathlib.Core.List.{List, [], _∷_, _++_, map, List·Memᴰ}
 use mathlib.Core.Option.{Option, some}
 use lib.Dec.{T}
@@ -115,23 +116,35 @@ pub data Follows (labels : List Label) (keys earlier : List Key) (line : Line) :
   rule9 : line .rule ≡ 9 → (p r : Key) → getElem? earlier (line .first) ≡ some p → getElem? earlier (line .second) ≡ some r
       → Interaction p r (line .key) → Follows labels keys earlier line
 
+-- "a tenth rule accepts without premise any key whose target is a single attribute label"
+pub record OneAttribute (single : ℕ → Bool) (k : Key) : Type 0 where
+  pub label : ℕ
+  pub isSingle : T (single label)
+  pub target : k .target ≡ label ∷ []
+
+-- A line follows in an edition: by a rule of both editions, or by rule 10 for a label that is single there
+pub data FollowsIn (single : ℕ → Bool) (labels : List Label) (keys earlier : List Key) (line : Line) : Type 0 where
+  shared : Follows labels keys earlier line → FollowsIn single labels keys earlier line
+  rule10 : line .rule ≡ 10 → line .first ≡ noNumber → line .second ≡ noNumber → OneAttribute single (line .key)
+      → FollowsIn single labels keys earlier line
+
 unfoldable pub lineKeys : List Line → List Key
 lineKeys lines = map (λ (l : Line). l .key) lines
 
 -- Line number n stands there and follows from the profile's keys and the lines before it
-pub record FollowsAt (labels : List Label) (keys : List Key) (lines : List Line) (n : ℕ) : Type 0 where
+pub record FollowsAt (single : ℕ → Bool) (labels : List Label) (keys : List Key) (lines : List Line) (n : ℕ) : Type 0 where
   pub line : Line
   pub stands : getElem? lines n ≡ some line
-  pub follows : Follows labels keys (lineKeys (take n lines)) line
+  pub follows : FollowsIn single labels keys (lineKeys (take n lines)) line
 
-unfoldable pub FollowsBelow : List Label → List Key → List Line → ℕ → Type 0
-FollowsBelow labels keys lines n = (i : ℕ) → i < n → FollowsAt labels keys lines i
+unfoldable pub FollowsBelow : (ℕ → Bool) → List Label → List Key → List Line → ℕ → Type 0
+FollowsBelow single labels keys lines n = (i : ℕ) → i < n → FollowsAt single labels keys lines i
 
 -- "the last line's key is the question"; a proof with no line has no last key
 unfoldable pub EndsWith : List Line → Key → Type 0
 EndsWith lines question = getElem? (lineKeys lines) (length lines - 1) ≡ some question
 
 -- "A proof is accepted if each line follows and the last line's key is the question."
-pub record Accepted (labels : List Label) (keys : List Key) (question : Key) (lines : List Line) : Type 0 where
-  pub each : FollowsBelow labels keys lines (length lines)
+pub record Accepted (single : ℕ → Bool) (labels : List Label) (keys : List Key) (question : Key) (lines : List Line) : Type 0 where
+  pub each : FollowsBelow single labels keys lines (length lines)
   pub last : EndsWith lines question

@@ -53,6 +53,10 @@ pub record Child (t : Table) (v x : ℕ) : Type 0 where
   pub inside : x < t .size
   pub below : t .parent x ≡ v
 
+-- "In edition 2 the trees .. have each attribute name at most once under an element": of the single labels
+pub record Once (single : ℕ → Bool) (t : Table) : Type 0 where
+  pub one : (v x y : ℕ) → Child t v x → Child t v y → T (single (t .label x)) → t .label x ≡ t .label y → x ≡ y
+
 -- "the labels below v down to and including w": w lies below v by this run of labels
 pub data Down (t : Table) : ℕ → List ℕ → ℕ → Type 0 where
   here : {v w : ℕ} → v ≡ w → Down t v [] w

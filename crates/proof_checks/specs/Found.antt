@@ -1,6 +1,7 @@
 -- What the readers found, put into 01's order of refusals: the profile's, the question's, the proof's size, then the lines.
 use Prim.Native.Nat.{ℕ, _≤_, _<_}
 use mathlib.Core.Path.{_≡_, refl, sym, _∙_, ap, subst}
+use mathlib.Core.Bool.{Bool}
 use mathlib.Core.List.{List, [], _∷_}
 use native.Mathlib.Omega.{arith}
 use borrow.Author.Tests.{lt-ltb}
@@ -8,7 +9,7 @@ use lib.ListN.{length}
 use Rattle.meaning.specs.Paths.{Label}
 use Rattle.meaning.specs.Refusals.{sound, firstRefusal, oversize, profileRefusal, questionRefusal, questionIn, proofWalked}
 use Rattle.meaning.specs.Refusals as Table
-use Rattle.meaning.specs.Operations.{Answer, ChecksProof, ProofJudged, refusedBy, plain, accepted, labelsIn, keysIn}
+use Rattle.meaning.specs.Operations.{Answer, ChecksProof, ProofJudged, refusedBy, plain, accepted, singleIn, labelsIn, keysIn}
 use Rattle.shapes.specs.Classes.{Tabled}
 use Rattle.judged.specs.Answers.{refusalOf}
 use Rattle.judged.specs.declared.Judged.{Judged}
@@ -29,7 +30,7 @@ over-size proof h = rw (lt-ltb 65536 (length proof) h) refl
 
 -- what 01 asks of the lines
 abbrev Judges : (profile question proof : List ℕ) → Answer → Type 0
-Judges profile question proof = ProofJudged (labelsIn profile) (keysIn profile) (questionIn question) (proofWalked (labelsIn profile) proof)
+Judges profile question proof = ProofJudged (singleIn profile) (labelsIn profile) (keysIn profile) (questionIn question) (proofWalked (labelsIn profile) proof)
 
 -- the answer of the lines, seen through the outcome of input 3
 lines-refuse : (Q : Answer → Type 0) (judged : Judged) (r : Table.Refusal) → r ≡ refusalOf 3 judged → r .input ≡ 3 → Q (checkedAnswer judged)
@@ -43,7 +44,7 @@ unfolding checkedAnswer
 lines-accept Q J.Sound is q = q
 lines-accept Q (J.Refused n p) is q = let z : _≡_ {A = ℕ} 0 3 = ap (λ (x : Table.Refusal). x .input) is in absurd (omega arith)
 
-module _ {profile classes : List ℕ} {judged : Judged} {labels keys : ℕ} (says : ProfileSays profile judged classes labels keys)
+module _ {profile classes : List ℕ} {judged : Judged} {newer : Bool} {before keys : ℕ} (says : ProfileSays profile judged classes newer before keys)
     {first : Outcome} (one : first ≡ outcomeOf 1 judged) (question proof : List ℕ) where
   pub proof-profile : {r : Refusal} → first ≡ O.Refused r → ChecksProof profile question proof (refusedBy (meant r) [])
   unfolding ChecksProof
@@ -86,19 +87,20 @@ module _ {profile classes : List ℕ} {judged : Judged} {labels keys : ℕ} (say
           (omega arith)
 
       -- what the check of the lines is given
-      pub proof-given : Given profile labels keys question classes
+      pub proof-given : Given profile newer before keys question classes
       proof-given =
           let p = sound-number profile-sound in
           record {
             acceptedProfile = p;
-            labelCount = says .labelCount p;
+            edition = says .edition p;
+            beforeKeys = says .beforeKeys p;
             keyCount = says .keyCount p;
             tabled = says .tabled p;
             acceptedQuestion = sound-number question-sound;
           }
 
       module _ (fits : length proof ≤ 65536) (proved : Judged)
-          (lines : ProofJudged (labelsIn profile) (keysIn profile) (questionIn question) (proofWalked (labelsIn profile) proof) (checkedAnswer proved))
+          (lines : ProofJudged (singleIn profile) (labelsIn profile) (keysIn profile) (questionIn question) (proofWalked (labelsIn profile) proof) (checkedAnswer proved))
           {third : Outcome} (three : third ≡ outcomeOf 3 proved) where
         passed : (answer : Answer) → Judges profile question proof answer → ChecksProof profile question proof answer
         unfolding ChecksProof

@@ -40,9 +40,10 @@ pub fn check_proof(profile: &[u8], question: &[u8], proof: &[u8]) -> Checking
             place: 0,
         });
     }
-    let labels = read.labels;
+    let newer = read.second;
+    let before = read.before;
     let keys = read.keys;
-    let proved = check_lines(profile, labels, keys, question, proof, &classes);
+    let proved = check_lines(profile, before, keys, question, proof, &classes, newer);
     let third = of_input(proved, TREE_OR_PROOF);
     match third {
         Outcome::Refused(refusal) => Checking::Refused(refusal),

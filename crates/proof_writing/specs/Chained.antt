@@ -19,7 +19,8 @@ use Rattle.theory_paths.specs.Good.{GoodKey, context-normal, target-normal}
 use Rattle.theory_paths.specs.Normal.{norm-of-normal}
 use Rattle.theory_derive.specs.Logic.{less-or, found-below, found-mem}
 use Rattle.theory_derive.specs.Spots.{Taken as Step, Fires, Chain, begun, taken}
-use Rattle.theory_derive.specs.Written.{stepLines, takenLines, linesFrom, proofLines}
+use Rattle.theory_derive.specs.Accept.{turns}
+use Rattle.theory_derive.specs.Written.{stepLines, takenLines, linesFrom, firstLine, proofLines}
 use Rattle.writing.specs.Wrote.{written}
 use Rattle.step_writing.specs.Fits.{KeyBody, key-fits}
 use Rattle.step_writing.specs.Lines.{WroteLines, bytesOfLines}
@@ -28,7 +29,7 @@ use Rattle.proof_writing.specs.Derived.{KeyNormal}
 use Rattle.steps.specs.Ranges.{stepOf}
 use Rattle.steps.specs.Finding.{stepsBelow}
 use Rattle.proof_writing.specs.Ready.{TakenReady, ProofReady}
-use Rattle.proof_writing.specs.Cited.{citedKey, takenBy, linesBy, firstLine, proofBy}
+use Rattle.proof_writing.specs.Cited.{citedKey, takenBy, linesBy, proofBy}
 
 -- What the decider has: an accepted profile, whose key number n stands whole at record labels + n, an accepted question, and the steps
 pub record Remembers (declared : List Label) (profile : List ℕ) (labels : ℕ) (keys : List Key) (body : List ℕ) (u : ℕ) (steps : List Taken) (count : ℕ)
@@ -125,21 +126,22 @@ module _ {declared : List Label} {profile : List ℕ} {labels : ℕ} {keys : Lis
       }
 
   -- what `write_proof` asks
-  pub proof-ready : {out : List ℕ} → 65536 ≤ length out → ProofReady out profile labels body steps count
+  pub proof-ready : {out : List ℕ} → 65536 ≤ length out → ProofReady out profile labels body u steps count
   proof-ready r =
       record {
         room = r;
         few = g .few;
         key = asked-body;
         normal = good-normal declared (keyIn body) (g .asked);
+        onChain = turns declared keys (keyIn body) (g .good) (g .asked) (g .chain) .1;
         each = λ n h. fired-ready _ (each-below (Fired keys (keyIn body)) steps count (chain-each (g .chain)) n h);
       }
 
   -- and what it writes
-  pub proof-is : proofBy profile labels (keyIn body) (stepsBelow steps count) ≡ proofLines keys (keyIn body) (stepsBelow steps count)
-  unfolding proofBy proofLines firstLine
+  pub proof-is : proofBy profile labels (keyIn body) u (stepsBelow steps count) ≡ proofLines keys (keyIn body) u (stepsBelow steps count)
+  unfolding proofBy proofLines
   proof-is =
-      ap {B = List Line} (λ (l : List Line). firstLine (keyIn body) ∷ l)
+      ap {B = List Line} (λ (l : List Line). firstLine (keyIn body) u ∷ l)
       (lines-by-is profile labels keys (keyIn body) (cited-each (chain-each (g .chain))) 1)
     where
       cited-each : {ss : List Step} → Each (Fired keys (keyIn body)) ss → Each (λ (t : Step). getD keys (t .key) noKey ≡ citedKey profile (labels + t .key)) ss
@@ -147,12 +149,12 @@ module _ {declared : List Label} {profile : List ℕ} {labels : ℕ} {keys : Lis
       cited-each (also {x = t} f e) =
           also (getD-some keys (t .key) (g .are (t .key) (found-below keys (t .key) (f .fires .cited)))) (cited-each e)
 
-  pub proof-bytes-are : {out exit : List ℕ} {used : ℕ} → WroteLines out exit 0 (proofBy profile labels (keyIn body) (stepsBelow steps count)) used
-      → (exit ≡ flatten (map lineBytes (proofLines keys (keyIn body) (stepsBelow steps count))) ++ drop used out)
-      × (used ≡ length (flatten (map lineBytes (proofLines keys (keyIn body) (stepsBelow steps count)))))
+  pub proof-bytes-are : {out exit : List ℕ} {used : ℕ} → WroteLines out exit 0 (proofBy profile labels (keyIn body) u (stepsBelow steps count)) used
+      → (exit ≡ flatten (map lineBytes (proofLines keys (keyIn body) u (stepsBelow steps count))) ++ drop used out)
+      × (used ≡ length (flatten (map lineBytes (proofLines keys (keyIn body) u (stepsBelow steps count)))))
   unfolding bytesOfLines written
   proof-bytes-are {out} {exit} {used} w =
-      let lines = proofBy profile labels (keyIn body) (stepsBelow steps count) in
+      let lines = proofBy profile labels (keyIn body) u (stepsBelow steps count) in
       let n : used ≡ length (flatten (map lineBytes lines)) = let a = w .wrote .after in a ∙ (omega arith) in
       let m : 0 + length (flatten (map lineBytes lines)) ≡ used = omega arith in (
         w .wrote .bytes ∙ ap₂ (λ (k : ℕ) (l : List Line). flatten (map lineBytes l) ++ drop k out) m proof-is,

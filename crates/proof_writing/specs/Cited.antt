@@ -6,14 +6,13 @@ use mathlib.Core.List.{List, [], _∷_, _++_}
 use lib.Dec.{leb}
 use lib.ListN.{length}
 use borrow.Author.Tests.{leb-true}
-use Rattle.meaning.specs.Limits.{noNumber}
 use Rattle.meaning.specs.Rules.{Line}
 use Rattle.meaning.specs.Keys.{Key}
 use Rattle.meaning.specs.Records.{keyIn, recordBody}
 use Rattle.meaning.specs.Operations.{recordsFrom}
 use Rattle.meaning.specs.Pattern.{tOf}
 use Rattle.theory_derive.specs.Spots.{Taken, lineOf, holdsEmpty}
-use Rattle.theory_derive.specs.Written.{keyAt, oneLine, chainLines, endLines, emptyLines, stepLines}
+use Rattle.theory_derive.specs.Written.{oneLine, chainLines, endLines, emptyLines, stepLines, firstLine}
 use Rattle.step_writing.specs.StepLines.{openingOf, unitedBy, chainLinesOf, endLinesOf, emptyLinesOf}
 use Rattle.proof_writing.specs.Derived.{KeyNormal, opening-is, chain-is, end-is, empty-is}
 
@@ -50,8 +49,5 @@ linesBy profile labels asked lines (t ∷ steps) =
     let here = takenBy profile labels asked t lines in
     here ++ linesBy profile labels asked (lines + length here) steps
 
-unfoldable pub firstLine : Key → Line
-firstLine asked = oneLine 1 noNumber (keyAt asked (tOf asked))
-
-unfoldable pub proofBy : List ℕ → ℕ → Key → List Taken → List Line
-proofBy profile labels asked steps = firstLine asked ∷ linesBy profile labels asked 1 steps
+unfoldable pub proofBy : List ℕ → ℕ → Key → ℕ → List Taken → List Line
+proofBy profile labels asked u steps = firstLine asked u ∷ linesBy profile labels asked 1 steps

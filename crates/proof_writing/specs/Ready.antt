@@ -54,11 +54,12 @@ pub record TakenReady (profile : List ℕ) (labels : ℕ) (body : List ℕ) (t :
   pub within : recordLength (recordsFrom (labels + t .key) profile) ≤ length (recordsFrom (labels + t .key) profile)
   pub ready : SpotReady body (recordBody (recordsFrom (labels + t .key) profile)) (t .node) (t .branch) (t .spot)
 
-pub record ProofReady (out profile : List ℕ) (labels : ℕ) (body : List ℕ) (steps : List Taken) (count : ℕ) : Type 0 where
+pub record ProofReady (out profile : List ℕ) (labels : ℕ) (body : List ℕ) (u : ℕ) (steps : List Taken) (count : ℕ) : Type 0 where
   pub room : 65536 ≤ length out
   pub few : count ≤ 8
   pub key : KeyBody body
   pub normal : KeyNormal (keyIn body)
+  pub onChain : u ≤ tOf (keyIn body)
   pub each : (n : ℕ) → n < count → TakenReady profile labels body (stepOf (getD steps n (record { key = 0; node = 0; branch = 0; spot = 0 })))
 
 -- ---- sizes of a line

@@ -1,13 +1,14 @@
 -- One law for each return of the writers of a step and of the proof.
 use Prim.Native.Nat.{ℕ, zero, suc, _+_, _-_, _*_, _<_, _≤_}
 use mathlib.Core.Path.{_≡_, refl, sym, _∙_, ap, ap₂, subst}
-use mathlib.Core.Bool.{Bool, true, false}
+use mathlib.Core.Bool.{Bool, true, false, cond}
 use mathlib.Core.List.{List, [], _∷_, _++_, append-assoc}
 use native.Mathlib.Omega.{arith}
 use native.Mathlib.Numerals.{sub-one}
-use lib.ListN.{length, getD, take, drop, length-append, drop-of-length-le}
-use lib.Seq.{take-all}
-use borrow.Author.Tests.{le-leb, lt-leb}
+use lib.Dec.{ltb}
+use lib.ListN.{length, getD, take, drop, length-take, length-drop}
+use borrow.Rule.Slice.PartAt.{part-to-end}
+use borrow.Author.Tests.{le-leb, lt-leb, le-ltb, lt-ltb}
 use Rattle.meaning.specs.Rules.{Line}
 use Rattle.meaning.specs.Keys.{Key}
 use Rattle.meaning.specs.Records.{keyIn, recordLength, recordBody}
@@ -15,7 +16,7 @@ use Rattle.meaning.specs.Operations.{recordsFrom}
 use Rattle.meaning.specs.Pattern.{tOf}
 use Rattle.theory_derive.specs.Spots.{Taken as Step, chainOf, lineOf, holdsEmpty}
 use Rattle.theory_derive.specs.Lines.{chain-length}
-use Rattle.theory_derive.specs.Written.{keyOf, keyAt, oneLine, stepLines}
+use Rattle.theory_derive.specs.Written.{keyOf, keyAt, oneLine, stepLines, firstLine}
 use Rattle.writing.specs.Wrote.{Wrote, wrote-more, wrote-part}
 use Rattle.step_writing.specs.Fits.{KeyBody, OfKeyFits}
 use Rattle.step_writing.specs.Lines.{WroteLines, lines-more, lines-is, lines-none}
@@ -25,8 +26,9 @@ use Rattle.proof_writing.specs.Derived.{KeyNormal, key-normal}
 use Rattle.proof_writing.specs.Sizes.{sizeOf, step-size, size-few}
 use Rattle.steps.specs.Ranges.{stepOf}
 use Rattle.steps.specs.Finding.{stepsBelow}
+use Rattle.proof_writing.specs.Ready
 use Rattle.proof_writing.specs.Ready.{StepRoom, SpotReady}
-use Rattle.proof_writing.specs.Cited.{stepOn, step-on-is, citedKey, takenBy, linesBy, firstLine, proofBy}
+use Rattle.proof_writing.specs.Cited.{stepOn, step-on-is, citedKey, takenBy, linesBy, proofBy}
 
 -- ---- the three ends of a step
 
@@ -94,31 +96,53 @@ taken-wrote profile labels body t lines e w =
 
 -- ---- the first line and the last
 
-module _ {body C X : List ℕ} (k : KeyBody body) (c : C ≡ keyIn body .context) (x : X ≡ keyIn body .target) where
-  pub first-fits : {out z y line : List ℕ} {i end : ℕ} → Wrote z y 0 C i → Wrote y line i X end → 256 ≤ length out
-      → OfKeyFits out 0 1 (take end line) (take 0 C) body
-  first-fits {end = end} w v r =
-      let a = ap length (wrote-part (wrote-more w v)) in
-      let b = length-append C X in
-      let d = ap length c in
-      let e = ap length x in
-      let u = k .fits .context-short in
-      let m = k .fits .target-short in
-      record { rule-fits = omega arith; line = record { context-short = omega arith; target-short = omega arith; room = omega arith }; key = k }
+-- "K n is rule 1 .."; where the loop ended above t, K u is rule 10
+pub rule-above : (u t : ℕ) → u < t → _≡_ {A = ℕ} 10 (cond (ltb u t) 10 1)
+rule-above u t h = rw (lt-ltb u t h)
 
-  pub first-wrote : {o b z y line : List ℕ} {i end r : ℕ} → Wrote z y 0 C i → Wrote y line i X end
-      → WroteLines o b 0 (oneLine 1 65535 (keyOf (take end line) (take 0 C) (keyIn body .paths)) ∷ []) r → WroteLines o b 0 (firstLine (keyIn body) ∷ []) r
-  unfolding firstLine keyAt chainOf
-  first-wrote w v u =
-      let n = chain-length (keyIn body) in
-      lines-is
-      (ap₂ (λ (A B : List ℕ). oneLine 1 65535 (keyOf A B (keyIn body .paths)) ∷ [])
-      (wrote-part (wrote-more w v) ∙ ap₂ (λ (a b : List ℕ). a ++ b) c x ∙ sym (take-all (tOf (keyIn body)) (keyIn body .context ++ keyIn body .target) (whole)))
-      (sym (drop-of-length-le (keyIn body .context ++ keyIn body .target) {i = tOf (keyIn body)} whole)))
-      u
+pub rule-end : (u t : ℕ) → t ≤ u → _≡_ {A = ℕ} 1 (cond (ltb u t) 10 1)
+rule-end u t h = rw (le-ltb u t h)
+
+-- the line of the first key, split at u
+module _ {body line : List ℕ} (k : KeyBody body) (is : line ≡ chainOf (keyIn body)) (u : ℕ) {rule : ℕ} (told : rule ≡ cond (ltb u (length line)) 10 1) where
+  long : length line ≡ tOf (keyIn body)
+  long = ap length is ∙ chain-length (keyIn body)
+
+  rule-short : rule < 256
+  rule-short = subst (λ (n : ℕ). n < 256) (sym told) (go (ltb u (length line)))
     where
-      whole : length (keyIn body .context ++ keyIn body .target) ≤ tOf (keyIn body)
-      whole = let n : length (keyIn body .context ++ keyIn body .target) ≡ tOf (keyIn body) = chain-length (keyIn body) in omega arith
+      go : (b : Bool) → cond b 10 1 < 256
+      go true = omega arith
+      go false = omega arith
+
+  pub split-fits : {out : List ℕ} → u ≤ length line → 256 ≤ length out → OfKeyFits out 0 rule (take u line) (take (length line - u) (drop u line)) body
+  split-fits h r =
+      let l = long in
+      let n = Ready.chain-short k in
+      let a = length-take u line in
+      let b = ap length (part-to-end line u) ∙ length-drop u line in
+      record {
+        rule-fits = rule-short;
+        line = record { context-short = omega arith; target-short = omega arith; room = omega arith };
+        key = k;
+      }
+
+  pub split-wrote : {o b : List ℕ} {r : ℕ}
+      → WroteLines o b 0 (oneLine rule 65535 (keyOf (take u line) (take (length line - u) (drop u line)) (keyIn body .paths)) ∷ []) r
+      → WroteLines o b 0 (firstLine (keyIn body) u ∷ []) r
+  unfolding firstLine keyAt
+  split-wrote w =
+      lines-is
+      (ap₂ (λ (n : ℕ) (l : List ℕ). oneLine n 65535 (keyOf (take u line) l (keyIn body .paths)) ∷ [])
+      (told ∙ ap (λ (m : ℕ). cond (ltb u m) 10 1) long) (part-to-end line u)
+      ∙ ap (λ (l : List ℕ). oneLine (cond (ltb u (tOf (keyIn body))) 10 1) 65535 (keyOf (take u l) (drop u l) (keyIn body .paths)) ∷ []) is)
+      w
+
+module _ {body C X : List ℕ} (k : KeyBody body) (c : C ≡ keyIn body .context) (x : X ≡ keyIn body .target) where
+  -- the line that is put together
+  pub chain-put : {z y line : List ℕ} {i end : ℕ} → Wrote z y 0 C i → Wrote y line i X end → take end line ≡ chainOf (keyIn body)
+  unfolding chainOf
+  chain-put w v = wrote-part (wrote-more w v) ∙ ap₂ (λ (a b : List ℕ). a ++ b) c x
 
   pub last-fits : {out : List ℕ} {at : ℕ} → at + 256 ≤ length out → OfKeyFits out at 7 C X body
   last-fits r =
@@ -196,12 +220,12 @@ module _ {profile : List ℕ} {labels : ℕ} {asked : Key} {steps : List Taken} 
         at-few = let k = w .at-few in omega arith;
       }
 
-  pub writing-end : left ≤ 0 → {end entry : List ℕ} {r : ℕ} (C X : List ℕ) → keyOf C X (asked .paths) ≡ asked
-      → WroteLines entry start 0 (firstLine asked ∷ []) from
+  pub writing-end : left ≤ 0 → (u : ℕ) {end entry : List ℕ} {r : ℕ} (C X : List ℕ) → keyOf C X (asked .paths) ≡ asked
+      → WroteLines entry start 0 (firstLine asked u ∷ []) from
       → WroteLines out end at (oneLine 7 (lines - 1) (keyOf C X (asked .paths)) ∷ []) r
-      → WroteLines entry end 0 (proofBy profile labels asked (stepsBelow steps count)) r
+      → WroteLines entry end 0 (proofBy profile labels asked u (stepsBelow steps count)) r
   unfolding proofBy linesBy stepsBelow
-  writing-end h C X k f v =
+  writing-end h u C X k f v =
       let z : left ≡ 0 = omega arith in
       lines-more f
       (lines-is

@@ -21,8 +21,11 @@ ghost use mathlib.Core.List.{[], _∷_};
 ghost use Prim.Native.Nat.{_+_, _≤_, _<_};
 ghost use lib.ListN.{length};
 ghost use Rattle.meaning.specs.Records.{keyIn};
-ghost use Rattle.theory_derive.specs.Spots.{lineOf};
-ghost use Rattle.theory_derive.specs.Written.{stepLines};
+ghost use mathlib.Core.Bool.{cond};
+ghost use lib.Dec.{ltb};
+ghost use Rattle.meaning.specs.Pattern.{tOf};
+ghost use Rattle.theory_derive.specs.Spots.{chainOf, lineOf};
+ghost use Rattle.theory_derive.specs.Written.{stepLines, firstLine};
 ghost use Rattle.steps.specs.Finding.{stepsBelow};
 ghost use Rattle.steps.specs.Ranges.{stepOf};
 ghost use Rattle.writing.specs.Wrote.{Wrote};
@@ -30,10 +33,13 @@ ghost use Rattle.step_writing.specs.Fits.{KeyBody};
 ghost use Rattle.step_writing.specs.Lines.{WroteLines};
 ghost use Rattle.proof_writing.specs.Ready.{AskedLine, OnLine, SpotReady, StepRoom, TakenReady, ProofReady};
 ghost use Rattle.proof_writing.specs.Sizes.{sizeOf};
-ghost use Rattle.proof_writing.specs.Cited.{stepOn, takenBy, firstLine, proofBy};
+ghost use Rattle.proof_writing.specs.Cited.{stepOn, takenBy, proofBy};
 
-// "epsilon: no premise; any key with empty target"
+// "epsilon: no premise; any key with empty target"; in edition 2 "any key whose target is a single attribute label"
 const EPSILON: usize = 1;
+
+const ONE_ATTRIBUTE: usize = 10;
+
 // How many lines a step has: from a chain node, with the empty path in S and without; from inside a branch.
 const CHAIN_EMPTY_LINES: usize = 8;
 
@@ -101,7 +107,7 @@ fn write_step(
     write_on(out, at, lines, &line[..end], asked, cited, key, node, spot)
 }
 
-// The lines of a remembered step: "key number s stands at record labels + s".
+// The lines of a remembered step: key number s is record labels + s, where so many records stand before the keys.
 fn write_taken(
     out: &mut [u8],
     at: usize,
@@ -148,16 +154,34 @@ fn step_size(asked: &[u8], spot: usize) -> usize
     BRANCH_LINES
 }
 
-// "K n is rule 1, the first line (written always ..)"
-fn write_first(out: &mut [u8], asked: &[u8]) -> usize
-    requires { ⌜ KeyBody (now asked) × (256 ≤ length (now out)) ⌝ }
-    ensures { λ r. ⌜ WroteLines (now (out .entry)) (now (out .exit)) 0 (firstLine (keyIn (now (asked .entry))) ∷ []) r ⌝ }
+// Where the loop ended above t, t is an attribute alone, and rule 10 has no premise either.
+fn first_rule(u: usize, end: usize) -> usize
+    ensures { λ r. ⌜ r ≡ cond (ltb u end) 10 1 ⌝ }
+{
+    if u < end {
+        return ONE_ATTRIBUTE;
+    }
+    EPSILON
+}
+
+// K u over the line from root to t.
+fn write_split(out: &mut [u8], line: &[u8], u: usize, asked: &[u8]) -> usize
+    requires { ⌜ KeyBody (now asked) × (256 ≤ length (now out)) × (now line ≡ chainOf (keyIn (now asked))) × (u ≤ length (now line)) ⌝ }
+    ensures { λ r. ⌜ WroteLines (now (out .entry)) (now (out .exit)) 0 (firstLine (keyIn (now (asked .entry))) u ∷ []) r ⌝ }
+{
+    let rule = first_rule(u, line.len());
+    write_of_key(out, 0, rule, NO_NUMBER, &line[..u], &line[u..], asked)
+}
+
+// The first line, K u: its target is empty where u is t, else the attribute t alone.
+fn write_first(out: &mut [u8], asked: &[u8], u: usize) -> usize
+    requires { ⌜ KeyBody (now asked) × (256 ≤ length (now out)) × (u ≤ tOf (keyIn (now asked))) ⌝ }
+    ensures { λ r. ⌜ WroteLines (now (out .entry)) (now (out .exit)) 0 (firstLine (keyIn (now (asked .entry))) u ∷ []) r ⌝ }
 {
     let mut line = [0u8; LINE_SYMBOLS];
-    let front = context(asked);
-    let next = put(&mut line, 0, front);
+    let next = put(&mut line, 0, context(asked));
     let end = put(&mut line, next, target(asked));
-    write_of_key(out, 0, EPSILON, NO_NUMBER, &line[..end], &front[..0], asked)
+    write_split(out, &line[..end], u, asked)
 }
 
 // The proof, from the front of the buffer; the bytes used.
@@ -166,13 +190,14 @@ pub fn write_proof(
     profile: &[u8],
     labels: usize,
     asked: &[u8],
+    u: usize,
     steps: [Taken; MOST_STEPS],
     count: usize,
 ) -> usize
-    requires { ⌜ ProofReady (now out) (now profile) labels (now asked) steps count ⌝ }
-    ensures { λ r. ⌜ WroteLines (now (out .entry)) (now (out .exit)) 0 (proofBy (now (profile .entry)) labels (keyIn (now (asked .entry))) (stepsBelow steps count)) r ⌝ }
+    requires { ⌜ ProofReady (now out) (now profile) labels (now asked) u steps count ⌝ }
+    ensures { λ r. ⌜ WroteLines (now (out .entry)) (now (out .exit)) 0 (proofBy (now (profile .entry)) labels (keyIn (now (asked .entry))) u (stepsBelow steps count)) r ⌝ }
 {
-    let mut at = write_first(out, asked);
+    let mut at = write_first(out, asked, u);
     let mut lines = 1;
     let mut left = count;
     while 0 < left {

@@ -4,6 +4,7 @@ use mathlib.Core.Path.{_≡_, refl, sym, subst, ap, ap₂, _∙_}
 use mathlib.Core.Bool.{Bool, true, false, cond, _&&_, _||_, not}
 use mathlib.Core.List.{List, [], _∷_, _++_}
 use native.Mathlib.Omega.{arith}
+use native.Mathlib.Nat.{add-zero, add-suc}
 use native.Mathlib.Numerals.{add-one}
 use borrow.Author.Tests.{eqb-true, eqb-false, eq-eqb, ne-eqb, ltb-true, lt-ltb, le-ltb, leb-true, not-true, not-false}
 use borrow.Rule.Slice.PartAt.{part-to-end}
@@ -13,7 +14,7 @@ use lib.Seq.{getD-set-same, getD-set-other, getD-drop, getD-take}
 use Rattle.meaning.specs.Lists.{every, any, same, isEmpty}
 use Rattle.meaning.specs.Paths.{Label, Class, element, attribute, isAttribute, declared, declaredClass}
 use Rattle.meaning.specs.Records.{word, recordLength, recordKind, recordBody, readLabel}
-use Rattle.meaning.specs.Refusals.{inProfileOrder, Walked, walk, firstOf, whole, isName, goodLabel, Profile, profileTests, profileNext, profileWalked}
+use Rattle.meaning.specs.Refusals.{inProfileOrder, Walked, walk, firstOf, whole, isName, goodLabel, Profile, noProfile, profileTests, profileNext}
 use Rattle.meaning.specs.Operations.{recordsFrom}
 use Rattle.shapes.specs.Classes.{Tabled, entryOf}
 use Rattle.theory_records.specs.Tests.{both, either, never}
@@ -170,24 +171,24 @@ tabled-more labels x classes t size g = record { entry = λ n h. go n h (eqb (x 
     go n h false e =
         getD-set-other classes (x .number) n (x .class) 0 (λ q. eqb-false (x .number) n e (sym q)) ∙ (t .entry n h ∙ sym (at-other n e))
 
--- The loop stands after so many labels
-pub record LabelLoop (bytes classes rest : List ℕ) (labels last : ℕ) : Type 0 where
+-- The loop stands after so many labels, the first of which is record number `first`
+pub record LabelLoop (first : ℕ) (bytes classes rest : List ℕ) (labels last : ℕ) : Type 0 where
   pub size : 6 * labels + length rest ≤ length bytes
   pub records : LabelRecords labels bytes
   pub highest : Highest (labelsAt labels bytes) last
   pub wide : length classes ≡ 256
   pub table : Tabled (labelsAt labels bytes) classes
   pub here : rest ≡ recordsFrom labels bytes
-  pub walks : walk profileTests profileNext 0 labels (labelled (labelsAt labels bytes)) rest ≡ profileWalked bytes
+  pub walks : walk profileTests profileNext 0 (first + labels) (labelled (labelsAt labels bytes)) rest ≡ walk profileTests profileNext 0 first noProfile bytes
 
 zeros : (k n : ℕ) → getD {A = ℕ} (replicate k 0) n 0 ≡ 0
 zeros zero n = refl
 zeros (suc k) zero = refl
 zeros (suc k) (suc n) = zeros k n
 
-pub labels-start : (bytes : List ℕ) → LabelLoop bytes (replicate 256 0) bytes 0 0
-unfolding labelsAt recordsFrom profileWalked entryOf declared any every
-labels-start bytes =
+pub labels-start : (first : ℕ) (bytes : List ℕ) → LabelLoop first bytes (replicate 256 0) bytes 0 0
+unfolding labelsAt recordsFrom entryOf declared any every
+labels-start first bytes =
     record {
       size = omega arith;
       records = none;
@@ -195,7 +196,7 @@ labels-start bytes =
       wide = length-replicate {A = ℕ} 256 0;
       table = record { entry = λ n h. zeros 256 n };
       here = refl;
-      walks = refl;
+      walks = ap (λ (n : ℕ). walk profileTests profileNext 0 n noProfile bytes) (add-zero first);
     }
 
 -- a whole label record at the front, as the code has it
@@ -235,7 +236,7 @@ label-bad-number : (labels : List Label) (l : List ℕ) → whole l ≡ true →
 unfolding profileTests firstOf inProfileOrder isEmpty
 label-bad-number labels l w k g = rw (room-left 2 64 0 l (omega arith), w, k, g)
 
-module _ {bytes classes rest : List ℕ} {labels last : ℕ} (loop : LabelLoop bytes classes rest labels last) {b : Bool} (isLabel : b ≡ isLabelRecord rest)
+module _ {first : ℕ} {bytes classes rest : List ℕ} {labels last : ℕ} (loop : LabelLoop first bytes classes rest labels last) {b : Bool} (isLabel : b ≡ isLabelRecord rest)
     (t : b ≡ true) {k : ℕ} (long : k ≡ word rest 0) {g : Bool} (good : g ≡ goodLabel (labelsAt labels bytes) (readLabel (take (k - 4) (drop 4 rest)))) where
   its : LabelHere rest
   its = label-here rest isLabel t
@@ -250,14 +251,15 @@ module _ {bytes classes rest : List ℕ} {labels last : ℕ} (loop : LabelLoop b
   some-rest : 0 < length rest
   some-rest = omega (arith, its .isWhole .head)
 
-  pub label-refused : not g ≡ true → profileWalked bytes ≡ record { number = 3; at = labels; state = labelled (labelsAt labels bytes) }
+  pub label-refused : not g ≡ true
+      → walk profileTests profileNext 0 first noProfile bytes ≡ record { number = 3; at = first + labels; state = labelled (labelsAt labels bytes) }
   label-refused v =
       sym (loop .walks)
-      ∙ walk-stop profileTests profileNext labels 2 (labelled (labelsAt labels bytes)) rest some-rest
+      ∙ walk-stop profileTests profileNext (first + labels) 2 (labelled (labelsAt labels bytes)) rest some-rest
       (label-bad-number (labelsAt labels bytes) rest is-whole (its .kind) (is-good (not-true _ v)))
 
   pub label-next : not g ≡ false → {number class : ℕ} → number ≡ getD rest 4 0 → class ≡ getD rest 5 0
-      → LabelLoop bytes (set classes number class) (take (length rest - k) (drop k rest)) (labels + 1) number
+      → LabelLoop first bytes (set classes number class) (take (length rest - k) (drop k rest)) (labels + 1) number
   label-next v {number} {class} isNumber isIts = rw (part-to-end rest k, long ∙ same-length, add-one) grows
     where
       old : List Label
@@ -297,7 +299,7 @@ module _ {bytes classes rest : List ℕ} {labels last : ℕ} (loop : LabelLoop b
           (subst (λ (n : ℕ). Tabled (old ++ (x ∷ [])) (set classes n (x .class))) number-is
           (tabled-more old x classes (loop .table) (loop .wide) parts)))
 
-      grows : LabelLoop bytes (set classes number class) (drop (recordLength rest) rest) (suc labels) number
+      grows : LabelLoop first bytes (set classes number class) (drop (recordLength rest) rest) (suc labels) number
       grows =
           record {
             size = omega (arith, loop .size, room, its .within, same-length, length-drop (recordLength rest) rest);
@@ -311,9 +313,9 @@ module _ {bytes classes rest : List ℕ} {labels last : ℕ} (loop : LabelLoop b
             table = table;
             here = ap (λ (r : List ℕ). drop (recordLength r) r) (loop .here) ∙ sym (records-next labels bytes);
             walks =
-                ap (λ (ls : List Label). walk profileTests profileNext 0 (suc labels) (labelled ls) (drop (recordLength rest) rest)) grown
-                ∙ (ap (λ (s : Profile). walk profileTests profileNext 0 (suc labels) s (drop (recordLength rest) rest))
+                ap₂ (λ (n : ℕ) (ls : List Label). walk profileTests profileNext 0 n (labelled ls) (drop (recordLength rest) rest)) (add-suc first labels) grown
+                ∙ (ap (λ (s : Profile). walk profileTests profileNext 0 (suc (first + labels)) s (drop (recordLength rest) rest))
                 (sym (next-label (labelled old) rest (its .kind)))
-                ∙ (sym (walk-step profileTests profileNext labels (labelled old) rest some-rest passes (profile-long (labelled old) rest some-rest passes))
+                ∙ (sym (walk-step profileTests profileNext (first + labels) (labelled old) rest some-rest passes (profile-long (labelled old) rest some-rest passes))
                 ∙ loop .walks));
           }

@@ -5,6 +5,7 @@ use judged::ACCEPTED;
 use judged::BAD_LABEL;
 use judged::Judged;
 use judged::TOO_LARGE;
+use shapes::bodies::EDITION_KIND;
 use shapes::bodies::LABEL_KIND;
 use shapes::bodies::whole;
 use shapes::fields::HEAD_BYTES;
@@ -14,10 +15,11 @@ use shapes::fields::word;
 ghost use mathlib.Core.Path.{_≡_};
 ghost use mathlib.Core.Bool.{false};
 ghost use Prim.Native.Nat.{_≤_};
+ghost use Rattle.meaning.specs.Refusals.{hasEdition};
 ghost use lib.ListN.{length};
 ghost use Rattle.records.specs.Agree.{isLabelRecord};
 ghost use Rattle.records.specs.KeyWalks.{KeysSay};
-ghost use Rattle.records.specs.ProfileWalks.{ProfileSays};
+ghost use Rattle.records.specs.ProfileWalks.{ProfileSays, EntriesSay};
 
 // "profile 16,384 bytes"
 const PROFILE_BYTES: usize = 16384;
@@ -25,6 +27,12 @@ const PROFILE_BYTES: usize = 16384;
 const NUMBER_IN_RECORD: usize = 4;
 
 const CLASS_IN_RECORD: usize = 5;
+// "a record of kind 6, one byte, 2"
+const EDITION_IN_RECORD: usize = 4;
+
+const EDITION_BYTES: usize = 5;
+
+const SECOND_EDITION: usize = 2;
 
 // What the keys come to: the number of the first record that is refused (0: none), and how many keys stand before it.
 pub struct KeysRead {
@@ -54,11 +62,13 @@ pub fn read_keys(bytes: &[u8], classes: &[u8; 256]) -> KeysRead
     }
 }
 
-// What a profile comes to: the refusal; where there is none, the class of each label (0: not declared) and how many labels and keys there are.
+// What a profile comes to: the refusal; where there is none, the class of each label (0: not declared), whether it is of edition 2, how many records
+// stand before the keys, and how many keys there are.
 pub struct ProfileRead {
     pub judged: Judged,
     pub classes: [u8; 256],
-    pub labels: usize,
+    pub second: bool,
+    pub before: usize,
     pub keys: usize,
 }
 
@@ -72,10 +82,10 @@ fn is_label_record(rest: &[u8]) -> bool
     word(rest, KIND_AT) == LABEL_KIND
 }
 
-// "A profile is labels, numbers ascending, then keys.": the records of a profile within its size.
-fn read_records(bytes: &[u8]) -> ProfileRead
-    requires { ⌜ length (now bytes) ≤ 16384 ⌝ }
-    ensures { λ r. ⌜ ProfileSays (now (bytes .entry)) (r .judged) (r .classes) (r .labels) (r .keys) ⌝ }
+// "A profile is labels, numbers ascending, then keys.": the records of a profile of that edition within its size, from record number `first` on.
+fn read_entries(bytes: &[u8], first: usize, second: bool) -> ProfileRead
+    requires { ⌜ (length (now bytes) ≤ 16384) × (first ≤ 1) ⌝ }
+    ensures { λ r. ⌜ EntriesSay first (now (bytes .entry)) (r .judged) (r .classes) (r .before) (r .keys) × (r .second ≡ second) ⌝ }
 {
     let mut classes = [0u8; 256];
     let mut rest = bytes;
@@ -85,9 +95,10 @@ fn read_records(bytes: &[u8]) -> ProfileRead
         let end = word(rest, 0);
         if !good_label(bytes, labels, last, &rest[HEAD_BYTES..end]) {
             return ProfileRead {
-                judged: Judged::Refused(BAD_LABEL, labels),
+                judged: Judged::Refused(BAD_LABEL, first + labels),
                 classes,
-                labels,
+                second,
+                before: 0,
                 keys: 0,
             };
         }
@@ -97,35 +108,61 @@ fn read_records(bytes: &[u8]) -> ProfileRead
         labels += 1;
     }
     let found = read_keys(rest, &classes);
+    let before = first + labels;
     let keys = found.keys;
     let number = found.number;
     if number != ACCEPTED {
         return ProfileRead {
-            judged: Judged::Refused(number, labels + keys),
+            judged: Judged::Refused(number, before + keys),
             classes,
-            labels,
+            second,
+            before,
             keys,
         };
     }
     ProfileRead {
         judged: Judged::Sound,
         classes,
-        labels,
+        second,
+        before,
         keys,
     }
 }
 
-// The refusal of input 1, a profile: its size, then its records from the front.
+// "A profile of edition 2 begins with a record of kind 6"
+fn is_edition_record(bytes: &[u8]) -> bool
+    ensures { λ r. ⌜ r ≡ hasEdition (now (bytes .entry)) ⌝ }
+{
+    if !whole(bytes) {
+        return false;
+    }
+    word(bytes, KIND_AT) == EDITION_KIND
+}
+
+// The refusal of input 1, a profile: its size, the edition's record, then its records from the front.
 pub fn read_profile(bytes: &[u8]) -> ProfileRead
-    ensures { λ r. ⌜ ProfileSays (now (bytes .entry)) (r .judged) (r .classes) (r .labels) (r .keys) ⌝ }
+    ensures { λ r. ⌜ ProfileSays (now (bytes .entry)) (r .judged) (r .classes) (r .second) (r .before) (r .keys) ⌝ }
 {
     if PROFILE_BYTES < bytes.len() {
         return ProfileRead {
             judged: Judged::Refused(TOO_LARGE, 0),
             classes: [0u8; 256],
-            labels: 0,
+            second: false,
+            before: 0,
             keys: 0,
         };
     }
-    read_records(bytes)
+    if !is_edition_record(bytes) {
+        return read_entries(bytes, 0, false);
+    }
+    if wide(bytes[EDITION_IN_RECORD]) != SECOND_EDITION {
+        return ProfileRead {
+            judged: Judged::Refused(BAD_LABEL, 0),
+            classes: [0u8; 256],
+            second: true,
+            before: 0,
+            keys: 0,
+        };
+    }
+    read_entries(&bytes[EDITION_BYTES..], 1, true)
 }

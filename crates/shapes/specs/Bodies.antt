@@ -112,9 +112,13 @@ module _ (kind : ℕ) (body : List ℕ) where
   unfolding bodyEnds
   ends-line e h k = rw (e, le-leb 5 (length body) h, k, part-to-end body 5)
 
-  pub ends-unknown : (kind ≡ 1 → ⊥) → (kind ≡ 2 → ⊥) → (kind ≡ 3 → ⊥) → (kind ≡ 5 → ⊥) → (kind ≡ 4 → ⊥) → true ≡ bodyEnds kind body
+  pub ends-edition : kind ≡ 6 → eqb (length body) 1 ≡ bodyEnds kind body
   unfolding bodyEnds
-  ends-unknown a b c w d = rw (ne-eqb kind 1 a, ne-eqb kind 2 b, ne-eqb kind 3 c, ne-eqb kind 5 w, ne-eqb kind 4 d)
+  ends-edition e = rw e
+
+  pub ends-unknown : (kind ≡ 1 → ⊥) → (kind ≡ 2 → ⊥) → (kind ≡ 3 → ⊥) → (kind ≡ 5 → ⊥) → (kind ≡ 4 → ⊥) → (kind ≡ 6 → ⊥) → true ≡ bodyEnds kind body
+  unfolding bodyEnds
+  ends-unknown a b c w d e = rw (ne-eqb kind 1 a, ne-eqb kind 2 b, ne-eqb kind 3 c, ne-eqb kind 5 w, ne-eqb kind 4 d, ne-eqb kind 6 e)
 
 module _ (l : List ℕ) where
   pub whole-head : length l < 4 → false ≡ whole l

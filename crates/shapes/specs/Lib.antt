@@ -5,5 +5,6 @@ pub mod Names
 pub mod Parts
 pub mod Bodies
 pub mod Classes
+pub mod ClassTests
 pub mod Tables
 pub mod KeyPaths

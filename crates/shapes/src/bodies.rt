@@ -19,6 +19,8 @@ pub const NODE_KIND: usize = 3;
 pub const LINE_KIND: usize = 4;
 
 pub const WIDE_KIND: usize = 5;
+
+pub const EDITION_KIND: usize = 6;
 // "number, class .., name, the rest"; "parent (2), label (1), value (2)", or value (4); "rule (1), first premise (2), second premise (2), a key body"
 pub const LABEL_FIELDS: usize = 2;
 
@@ -112,6 +114,9 @@ pub fn body_ends(kind: usize, body: &[u8]) -> bool
             return false;
         }
         return key_shape(&body[LINE_FIELDS..]);
+    }
+    if kind == EDITION_KIND {
+        return body.len() == 1;
     }
     true
 }

@@ -6,7 +6,7 @@ use native.Mathlib.Omega.{arith}
 use lib.ListN.{length, drop, length-append}
 use Rattle.meaning.specs.Refusals.{Refusal, sound, firstRefusal, profileRefusal, treeRefusal, nodesIn, answerRefusal}
 use Rattle.meaning.specs.Listing.{block}
-use Rattle.meaning.specs.Operations.{Answer, Lists, Unless, choose, refusedBy, filled, listed, labelsIn}
+use Rattle.meaning.specs.Operations.{Answer, Lists, Unless, choose, refusedBy, filled, listed, secondIn, labelsIn}
 use Rattle.theory_operations.specs.Refusing.{unless-small, unless-sound, unless-refused, sound-more, sound-end, first-passes, first-stops, answer-large, profile-settled, tree-settled, first-named, sound-number}
 
 module _ (profile tree : List ℕ) (k : ℕ) (buffer : List ℕ) where
@@ -21,17 +21,17 @@ module _ (profile tree : List ℕ) (k : ℕ) (buffer : List ℕ) where
         unless-refused _ buffer _ r
         (first-passes _ _ (answer-large buffer room) ∙ first-named r (profileRefusal profile) _ (profile-settled profile) e named) named
 
-    pub list-tree : (r : Refusal) → sound ≡ profileRefusal profile → r ≡ treeRefusal (labelsIn profile) tree → 0 < r .input
+    pub list-tree : (r : Refusal) → sound ≡ profileRefusal profile → r ≡ treeRefusal (secondIn profile) (labelsIn profile) tree → 0 < r .input
         → Lists profile tree k buffer (refusedBy r buffer)
     unfolding Lists
     list-tree r s e named =
         unless-refused _ buffer _ r
         (first-passes _ _ (answer-large buffer room) ∙ first-passes _ _ (sound-number s)
-        ∙ first-named r (treeRefusal (labelsIn profile) tree) _ (tree-settled (labelsIn profile) tree) e named)
+        ∙ first-named r (treeRefusal (secondIn profile) (labelsIn profile) tree) _ (tree-settled (secondIn profile) (labelsIn profile) tree) e named)
         named
 
-    pub list-block : sound ≡ profileRefusal profile → sound ≡ treeRefusal (labelsIn profile) tree
-        → Lists profile tree k buffer (filled listed (block (labelsIn profile) (nodesIn (labelsIn profile) tree) k) buffer)
+    pub list-block : sound ≡ profileRefusal profile → sound ≡ treeRefusal (secondIn profile) (labelsIn profile) tree
+        → Lists profile tree k buffer (filled listed (block (labelsIn profile) (nodesIn (secondIn profile) (labelsIn profile) tree) k) buffer)
     unfolding Lists
     list-block s t =
         unless-sound _ buffer _ _

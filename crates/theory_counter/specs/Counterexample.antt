@@ -6,12 +6,13 @@ use mathlib.Core.List.{List, [], _∷_, List·Memᴰ, List·Memᴰ·head, List·
 use native.Mathlib.Omega.{arith}
 use lib.Dec.{T}
 use lib.ListN.{length}
-use Rattle.meaning.specs.Limits.{KeyLimits, fillerAttribute}
+use mathlib.Core.Bool.{Bool}
+use Rattle.meaning.specs.Limits.{KeyLimits, inProfile, fillerAttribute}
 use Rattle.meaning.specs.Lists.{Each, every}
 use Rattle.meaning.specs.Lists.Each.{end, also}
-use Rattle.meaning.specs.Paths.{Label, Agrees, classOf}
+use Rattle.meaning.specs.Paths.{Label, Agrees, classOf, singles}
 use Rattle.meaning.specs.Refusals.{isSymbol}
-use Rattle.meaning.specs.Trees.{IsTree, tableOf}
+use Rattle.meaning.specs.Trees.{IsTree, Once, tableOf}
 use Rattle.meaning.specs.Keys.{Key, Breaks, Keeps, Implied}
 use Rattle.meaning.specs.Pattern.{tOf, patternNodes, pattern, marked, IsU, writtenNodes}
 use Rattle.theory_paths.specs.Bools.{every-each, Each-of}
@@ -31,7 +32,9 @@ use Rattle.theory_counter.specs.Crossing.{KeyShape, breaks-crosses}
 use Rattle.theory_counter.specs.Breaking.{asked-breaks}
 use Rattle.theory_counter.specs.PatternLaws.{pattern-length}
 use Rattle.theory_counter.specs.PatternTree.{pattern-drawn, pattern-asked}
-use Rattle.theory_counter.specs.Leading.{crosses-never}
+use Rattle.theory_counter.specs.Leading.{crosses-never, hangs-never}
+use Rattle.theory_counter.specs.Singles.{written-once}
+use Rattle.theory_derive.specs.PatternOnce.{pattern-once}
 use Rattle.theory_counter.specs.WrittenTable.{written-doubled}
 
 -- 202 is a symbol of no accepted path
@@ -72,7 +75,7 @@ module _ (labels : List Label) (good : GoodLabels labels) (limits : KeyLimits) (
   pub counter-tree : IsTree (classOf labels) (tableOf (writtenNodes (classOf labels) asked u))
   counter-tree = written-tree counter-drawn counter-written
 
-  module _ (keys : List Key) (m : IsU keys asked u) where
+  module _ (single : ℕ → Bool) (keys : List Key) (m : IsU single keys asked u) where
     -- it breaks the question
     pub counter-breaks : Breaks (classOf labels) (tableOf (writtenNodes (classOf labels) asked u)) asked
     counter-breaks = asked-breaks counter-drawn counter-written asked (pattern-asked asked u (m .fromQ) h)
@@ -85,15 +88,27 @@ module _ (labels : List Label) (good : GoodLabels labels) (limits : KeyLimits) (
     keeps-among (k ∷ ks) among (also a rest) =
         also
         (λ b.
-        crosses-never keys asked u m h k (among k (List·Memᴰ·head refl))
+        crosses-never single keys asked u m h k (among k (List·Memᴰ·head refl))
         (breaks-crosses counter-drawn counter-written k (key-shape labels good limits k a) b))
         (keeps-among ks (λ j i. among j (List·Memᴰ·tail i)) rest)
 
     pub counter-keeps : Each (GoodKey labels limits) keys → Each (Keeps (classOf labels) (tableOf (writtenNodes (classOf labels) asked u))) keys
     counter-keeps good = keeps-among keys (λ k i. i) good
 
-    -- so the question is not implied
-    pub counter-not-implied : Each (GoodKey labels limits) keys → Implied labels keys asked → ⊥
-    unfolding Implied Keeps
-    counter-not-implied good implied =
-        implied (classOf labels) (class-agrees labels) (tableOf (writtenNodes (classOf labels) asked u)) counter-tree (counter-keeps good) counter-breaks
+    -- it is a tree of the edition, as the pattern is
+    pub counter-once : Once single (pattern asked) → Once single (tableOf (writtenNodes (classOf labels) asked u))
+    counter-once once = written-once counter-drawn counter-written single once (hangs-never single keys asked u m h)
+
+-- so the question is not implied
+module _ (second : Bool) (labels : List Label) (good : GoodLabels labels) (asked : Key) (g : GoodKey labels inProfile asked) (u : ℕ) (h : u < tOf asked)
+    (keys : List Key) (m : IsU (singles second (classOf labels)) keys asked u) where
+  pub edition-once : Once (singles second (classOf labels)) (tableOf (writtenNodes (classOf labels) asked u))
+  edition-once = counter-once labels good inProfile asked g u h (singles second (classOf labels)) keys m (pattern-once second labels good asked g)
+
+  pub counter-not-implied : Each (GoodKey labels inProfile) keys → Implied second labels keys asked → ⊥
+  unfolding Implied Keeps
+  counter-not-implied goodKeys implied =
+      implied (classOf labels) (class-agrees labels) (tableOf (writtenNodes (classOf labels) asked u)) (counter-tree labels good inProfile asked g u h)
+      edition-once
+      (counter-keeps labels good inProfile asked g u h (singles second (classOf labels)) keys m goodKeys)
+      (counter-breaks labels good inProfile asked g u h (singles second (classOf labels)) keys m)

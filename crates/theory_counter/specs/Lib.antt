@@ -16,6 +16,7 @@ pub mod Lines
 pub mod Drawing
 pub mod PatternLaws
 pub mod PatternTree
+pub mod Singles
 pub mod Leading
 -- The written nodes: where each stands, and what its record says
 pub mod Places

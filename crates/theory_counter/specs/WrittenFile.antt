@@ -11,14 +11,14 @@ use lib.ListN.{length, getD}
 use Rattle.meaning.specs.Limits.{KeyLimits, inProfile, fillerAttribute, rootLabel, noNumber, wideKind}
 use Rattle.meaning.specs.Lists.{Each}
 use Rattle.meaning.specs.Lists.Each.{end, also}
-use Rattle.meaning.specs.Paths.{Class, Label, declared, isLabel, element, isElement, classOf}
+use Rattle.meaning.specs.Paths.{Class, Label, declared, isLabel, element, isElement, classOf, singles}
 use Rattle.meaning.specs.Refusals.{sound, goodRoot, treeRefusal, nodesIn}
-use Rattle.meaning.specs.Trees.{noNode, tableOf}
+use Rattle.meaning.specs.Trees.{noNode, tableOf, Once}
 use Rattle.meaning.specs.Keys.{Key}
 use Rattle.meaning.specs.Pattern.{qOf, tOf, patternNodes, writtenNodes, writtenTree}
 use Rattle.theory_paths.specs.Bools.{true-of, or-right}
 use Rattle.theory_paths.specs.Good.{GoodLabels, GoodKey, class-root}
-use Rattle.theory_records.specs.TreeFiles.{NodeBelow, NodesGood}
+use Rattle.theory_records.specs.TreeFiles.{NodeBelow, NodesGood, NodesOnce}
 use Rattle.meaning.specs.Records.{valueBytes}
 use Rattle.theory_records.specs.Written.{NodeFits}
 use Rattle.theory_records.specs.WrittenInputs.{tree-written-sound, nodes-in-written}
@@ -80,7 +80,8 @@ module _ (labels : List Label) (good : GoodLabels labels) (limits : KeyLimits) (
   pub counter-good : NodesGood labels (writtenNodes (classOf labels) asked u)
   counter-good = record { root = good-root; below = good-node }
 
-module _ (labels : List Label) (good : GoodLabels labels) (asked : Key) (g : GoodKey labels inProfile asked) (u : ℕ) (q : qOf asked ≤ u) (h : u < tOf asked) where
+module _ (second : Bool) (labels : List Label) (good : GoodLabels labels) (asked : Key) (g : GoodKey labels inProfile asked) (u : ℕ) (q : qOf asked ≤ u) (h : u < tOf asked)
+    (once : Once (singles second (classOf labels)) (tableOf (writtenNodes (classOf labels) asked u))) where
   fits : (n : ℕ) → n < length (writtenNodes (classOf labels) asked u) → NodeFits wideKind (getD (writtenNodes (classOf labels) asked u) n noNode)
   fits n l =
       record {
@@ -108,14 +109,34 @@ module _ (labels : List Label) (good : GoodLabels labels) (asked : Key) (g : Goo
   few-nodes : length (writtenNodes (classOf labels) asked u) ≤ 4096
   few-nodes = let m = written-most (classOf labels) labels asked g u q (le-of-lt h) in omega arith
 
+  -- a name that stood there before would be a second one under one parent
+  file-once : NodesOnce (singles second (classOf labels)) (writtenNodes (classOf labels) asked u)
+  unfolding tableOf
+  file-once = record { one = λ i j l k t e f. go i j l k t e f }
+    where
+      go : (i j : ℕ) → i < j → j < length (writtenNodes (classOf labels) asked u)
+          → T (singles second (classOf labels) (getD (writtenNodes (classOf labels) asked u) j noNode .label))
+          → getD (writtenNodes (classOf labels) asked u) i noNode .parent ≡ getD (writtenNodes (classOf labels) asked u) j noNode .parent
+          → getD (writtenNodes (classOf labels) asked u) i noNode .label ≡ getD (writtenNodes (classOf labels) asked u) j noNode .label → ⊥
+      go zero j l k t e f =
+          let r = root-parent (classOf labels) asked u (inside labels good inProfile asked g u h) in
+          let p = good-node labels good inProfile asked g u h j (omega arith) k .above in
+          let m = written-most (classOf labels) labels asked g u q (le-of-lt h) in
+          omega arith
+      go (suc i) j l k t e f =
+          let s =
+          once .one (getD (writtenNodes (classOf labels) asked u) j noNode .parent) j (suc i)
+          (record { notRoot = omega arith; inside = k; below = refl }) (record { notRoot = omega arith; inside = omega arith; below = e }) t (sym f) in
+          omega arith
+
   -- the file is accepted
-  pub counter-accepted : treeRefusal labels (writtenTree (classOf labels) asked u) ≡ sound
+  pub counter-accepted : treeRefusal second labels (writtenTree (classOf labels) asked u) ≡ sound
   unfolding writtenTree
   counter-accepted =
-      tree-written-sound labels (inr refl) (writtenNodes (classOf labels) asked u) (counter-good labels good inProfile asked g u h) all-fit few-nodes some-nodes
+      tree-written-sound labels second (inr refl) (writtenNodes (classOf labels) asked u) (counter-good labels good inProfile asked g u h) file-once all-fit few-nodes some-nodes
 
   -- and says these nodes
-  pub counter-read : nodesIn labels (writtenTree (classOf labels) asked u) ≡ writtenNodes (classOf labels) asked u
+  pub counter-read : nodesIn second labels (writtenTree (classOf labels) asked u) ≡ writtenNodes (classOf labels) asked u
   unfolding writtenTree
   counter-read =
-      nodes-in-written labels (inr refl) (writtenNodes (classOf labels) asked u) (counter-good labels good inProfile asked g u h) all-fit few-nodes some-nodes
+      nodes-in-written labels second (inr refl) (writtenNodes (classOf labels) asked u) (counter-good labels good inProfile asked g u h) file-once all-fit few-nodes some-nodes

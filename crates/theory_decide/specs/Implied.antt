@@ -15,16 +15,16 @@ use Rattle.meaning.specs.Rules.{Line, Accepted}
 use Rattle.meaning.specs.Records.{lineBytes}
 use Rattle.meaning.specs.Refusals
 use Rattle.meaning.specs.Refusals.{Refusal, Walked, firstRefusal, oversize, sound, profileRefusal, questionRefusal, questionIn, proofWalked}
-use Rattle.meaning.specs.Pattern.{tOf}
 use Rattle.meaning.specs.Operations
-use Rattle.meaning.specs.Operations.{labelsIn, keysIn, Unless, choose, ChecksProof, ProofJudged, proved, plain, filled, accepted, implied, ProofWritten}
+use Rattle.meaning.specs.Operations.{secondIn, singleIn, labelsIn, keysIn, Unless, choose, ChecksProof, ProofJudged, proved, plain, filled, accepted, implied, ProofWritten}
 use Rattle.theory_paths.specs.Good.{GoodLabels, GoodKey}
 use Rattle.theory_records.specs.Profiles.{accepted-labels, accepted-keys, accepted-few}
 use Rattle.theory_records.specs.Questions.{question-accepts}
 use Rattle.theory_records.specs.WrittenInputs.{LineFits, proof-walked-written}
 use Rattle.theory_operations.specs.Refusing.{unless-sound, sound-more, sound-end, fits-size}
 use Rattle.theory_rules.specs.Accepted.{accepted-implied}
-use Rattle.theory_derive.specs.Spots.{Taken, Chain}
+use Rattle.theory_derive.specs.Spots.{Taken, Ends, Chain}
+use Rattle.theory_derive.specs.Singles.{single-clear}
 use Rattle.theory_derive.specs.Written.{proofLines}
 use Rattle.theory_derive.specs.Runs.{FineLine}
 use Rattle.theory_derive.specs.Accept.{proof-accepted, proof-fine, proof-few}
@@ -40,10 +40,10 @@ fine-keys labels (also g gs) = also (g .good) (fine-keys labels gs)
 
 module _ (profile question : List ℕ) (soundProfile : profileRefusal profile .number ≡ 0)
     (soundQuestion : questionRefusal (labelsIn profile) question .number ≡ 0) {u : ℕ} {steps : List Taken}
-    (chain : Chain (keysIn profile) (questionIn question) u steps) (reached : u ≡ tOf (questionIn question)) where
+    (chain : Chain (keysIn profile) (questionIn question) u steps) (reached : Ends (singleIn profile) (questionIn question) u) where
   -- the bytes that are written
   unfoldable pub proofBytesOf : List ℕ
-  proofBytesOf = flatten (map lineBytes (proofLines (keysIn profile) (questionIn question) steps))
+  proofBytesOf = flatten (map lineBytes (proofLines (keysIn profile) (questionIn question) u steps))
 
   goodKeys : Each (GoodKey (labelsIn profile) inProfile) (keysIn profile)
   goodKeys = accepted-keys profile soundProfile
@@ -51,17 +51,20 @@ module _ (profile question : List ℕ) (soundProfile : profileRefusal profile .n
   goodAsked : GoodKey (labelsIn profile) inProfile (questionIn question)
   goodAsked = question-accepts (labelsIn profile) question soundQuestion .good
 
-  fine : Each (FineLine (labelsIn profile)) (proofLines (keysIn profile) (questionIn question) steps)
-  fine = proof-fine (labelsIn profile) (keysIn profile) (questionIn question) goodKeys goodAsked chain reached
+  fine : Each (FineLine (labelsIn profile)) (proofLines (keysIn profile) (questionIn question) u steps)
+  fine = proof-fine (labelsIn profile) (keysIn profile) (questionIn question) goodKeys goodAsked chain
 
-  few : length (proofLines (keysIn profile) (questionIn question) steps) ≤ 66
+  few : length (proofLines (keysIn profile) (questionIn question) u steps) ≤ 66
   few = proof-few (labelsIn profile) (keysIn profile) (questionIn question) goodKeys goodAsked chain
 
-  holds-lines : Accepted (labelsIn profile) (keysIn profile) (questionIn question) (proofLines (keysIn profile) (questionIn question) steps)
-  holds-lines = proof-accepted (labelsIn profile) (keysIn profile) (questionIn question) goodKeys goodAsked chain reached
+  holds-lines : Accepted (singleIn profile) (labelsIn profile) (keysIn profile) (questionIn question) (proofLines (keysIn profile) (questionIn question) u steps)
+  unfolding singleIn
+  holds-lines =
+      proof-accepted (labelsIn profile) (keysIn profile) (questionIn question) goodKeys goodAsked (singleIn profile)
+      (single-clear (secondIn profile) (labelsIn profile) (accepted-labels profile soundProfile)) chain reached
 
   walked : proofWalked (labelsIn profile) proofBytesOf
-      ≡ record { number = 0; at = length (proofLines (keysIn profile) (questionIn question) steps); state = proofLines (keysIn profile) (questionIn question) steps }
+      ≡ record { number = 0; at = length (proofLines (keysIn profile) (questionIn question) u steps); state = proofLines (keysIn profile) (questionIn question) u steps }
   unfolding proofBytesOf
   walked =
       proof-walked-written (labelsIn profile) _
@@ -72,21 +75,22 @@ module _ (profile question : List ℕ) (soundProfile : profileRefusal profile .n
 
   pub proof-size : length proofBytesOf ≤ 65536
   unfolding proofBytesOf
-  proof-size = proof-bytes (labelsIn profile) (keysIn profile) (questionIn question) goodKeys goodAsked chain reached
+  proof-size = proof-bytes (labelsIn profile) (keysIn profile) (questionIn question) goodKeys goodAsked chain
 
   pub proof-checks : ChecksProof profile question proofBytesOf (plain accepted)
   unfolding ChecksProof
   proof-checks =
       unless-sound _ [] _ (plain accepted)
       (sound-more _ _ soundProfile (sound-more _ _ soundQuestion (sound-more _ _ (fits-size 3 proofBytes proofBytesOf proof-size) sound-end)))
-      (subst (λ (w : Walked (List Line)). ProofJudged (labelsIn profile) (keysIn profile) (questionIn question) w (plain accepted)) (sym walked)
+      (subst (λ (w : Walked (List Line)). ProofJudged (singleIn profile) (labelsIn profile) (keysIn profile) (questionIn question) w (plain accepted)) (sym walked)
       (proved (holds-lines .each) refl (holds-lines .last) refl))
 
   pub implied-written : (buffer : List ℕ) → 65536 ≤ length buffer → ProofWritten profile question buffer (filled implied proofBytesOf buffer)
+  unfolding singleIn
   implied-written buffer room =
       record {
         holds =
-            accepted-implied (labelsIn profile) (keysIn profile) (questionIn question) _ (accepted-labels profile soundProfile)
+            accepted-implied (secondIn profile) (labelsIn profile) (keysIn profile) (questionIn question) _ (accepted-labels profile soundProfile)
             (fine-keys (labelsIn profile) fine) holds-lines;
         bytes = proofBytesOf;
         checked = proof-checks;

@@ -7,11 +7,13 @@ use lib.ListN.{length}
 use Rattle.meaning.specs.Limits.{inProfile, wideKind}
 use Rattle.meaning.specs.Lists.{Each}
 use Rattle.meaning.specs.Paths.{classOf}
-use Rattle.meaning.specs.Trees.{tableOf}
+use Rattle.meaning.specs.Trees.{tableOf, Once}
 use Rattle.meaning.specs.Keys.{Breaks, Keeps}
 use Rattle.meaning.specs.Refusals.{Refusal, profileRefusal, questionRefusal, questionIn}
 use Rattle.meaning.specs.Pattern.{tOf, IsU, writtenNodes, writtenTree}
 use Rattle.meaning.specs.Operations.{
+  secondIn,
+  singleIn,
   labelsIn,
   keysIn,
   treeIn,
@@ -32,13 +34,13 @@ use Rattle.theory_records.specs.Questions.{question-accepts}
 use Rattle.meaning.specs.Records.{valueBytes}
 use Rattle.theory_records.specs.TreeFiles.{stride}
 use Rattle.theory_records.specs.WrittenInputs.{nodes-size}
-use Rattle.theory_counter.specs.Counterexample.{counter-breaks, counter-keeps, counter-not-implied}
+use Rattle.theory_counter.specs.Counterexample.{counter-breaks, counter-keeps, edition-once, counter-not-implied}
 use Rattle.theory_counter.specs.WrittenFile.{counter-accepted, counter-read}
 use Rattle.theory_counter.specs.Size.{written-most}
 use Rattle.theory_operations.specs.Refusing.{unless-sound, sound-more, sound-end}
 
 module _ (profile question : List ℕ) (soundProfile : profileRefusal profile .number ≡ 0)
-    (soundQuestion : questionRefusal (labelsIn profile) question .number ≡ 0) (u : ℕ) (isU : IsU (keysIn profile) (questionIn question) u) where
+    (soundQuestion : questionRefusal (labelsIn profile) question .number ≡ 0) (u : ℕ) (isU : IsU (singleIn profile) (keysIn profile) (questionIn question) u) where
   goodLabels : GoodLabels (labelsIn profile)
   goodLabels = accepted-labels profile soundProfile
 
@@ -56,40 +58,45 @@ module _ (profile question : List ℕ) (soundProfile : profileRefusal profile .n
   tree-bytes = nodes-size (labelsIn profile) wideKind (writtenNodes (classOf (labelsIn profile)) (questionIn question) u)
 
   module _ (low : u < tOf (questionIn question)) where
+    once : Once (singleIn profile) (tableOf (writtenNodes (classOf (labelsIn profile)) (questionIn question) u))
+    unfolding singleIn
+    once = edition-once (secondIn profile) (labelsIn profile) goodLabels (questionIn question) goodAsked u low (keysIn profile) isU
+
     -- the file says the written nodes
     same-tree : treeIn profile (writtenTree (classOf (labelsIn profile)) (questionIn question) u)
         ≡ tableOf (writtenNodes (classOf (labelsIn profile)) (questionIn question) u)
-    unfolding treeIn
-    same-tree = ap tableOf (counter-read (labelsIn profile) goodLabels (questionIn question) goodAsked u (isU .fromQ) low)
+    unfolding treeIn singleIn
+    same-tree = ap tableOf (counter-read (secondIn profile) (labelsIn profile) goodLabels (questionIn question) goodAsked u (isU .fromQ) low once)
 
     keeps-all : Each (KeepsIn profile (writtenTree (classOf (labelsIn profile)) (questionIn question) u)) (keysIn profile)
     unfolding KeepsIn
     keeps-all =
         subst (λ t. Each (Keeps (classOf (labelsIn profile)) t) (keysIn profile)) (sym same-tree)
-        (counter-keeps (labelsIn profile) goodLabels inProfile (questionIn question) goodAsked u low (keysIn profile) isU (accepted-keys profile soundProfile))
+        (counter-keeps (labelsIn profile) goodLabels inProfile (questionIn question) goodAsked u low (singleIn profile) (keysIn profile) isU (accepted-keys profile soundProfile))
 
     breaks-question : BreaksIn profile (writtenTree (classOf (labelsIn profile)) (questionIn question) u) (questionIn question)
     unfolding BreaksIn
     breaks-question =
         subst (λ t. Breaks (classOf (labelsIn profile)) t (questionIn question)) (sym same-tree)
-        (counter-breaks (labelsIn profile) goodLabels inProfile (questionIn question) goodAsked u low (keysIn profile) isU)
+        (counter-breaks (labelsIn profile) goodLabels inProfile (questionIn question) goodAsked u low (singleIn profile) (keysIn profile) isU)
 
     pub tree-checks : ChecksCounterexample profile question (writtenTree (classOf (labelsIn profile)) (questionIn question) u) (plain accepted)
-    unfolding ChecksCounterexample treeRefusals
+    unfolding ChecksCounterexample treeRefusals singleIn
     tree-checks =
         unless-sound _ [] _ (plain accepted)
         (sound-more _ _ soundProfile
         (sound-more _ _ soundQuestion
         (sound-more _ _
-        (ap (λ (r : Refusal). r .number) (counter-accepted (labelsIn profile) goodLabels (questionIn question) goodAsked u (isU .fromQ) low)) sound-end)))
+        (ap (λ (r : Refusal). r .number) (counter-accepted (secondIn profile) (labelsIn profile) goodLabels (questionIn question) goodAsked u (isU .fromQ) low once)) sound-end)))
         (refutes keeps-all breaks-question refl)
 
     pub not-implied-written : (buffer : List ℕ)
         → TreeWritten profile question buffer (filled notImplied (writtenTree (classOf (labelsIn profile)) (questionIn question) u) buffer)
+    unfolding singleIn
     not-implied-written buffer =
         record {
           fails =
-              counter-not-implied (labelsIn profile) goodLabels inProfile (questionIn question) goodAsked u low (keysIn profile) isU
+              counter-not-implied (secondIn profile) (labelsIn profile) goodLabels (questionIn question) goodAsked u low (keysIn profile) isU
               (accepted-keys profile soundProfile);
           u = u;
           isU = isU;

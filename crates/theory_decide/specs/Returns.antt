@@ -9,9 +9,9 @@ use Rattle.meaning.specs.Paths.{classOf}
 use Rattle.meaning.specs.Refusals
 use Rattle.meaning.specs.Refusals.{Refusal, sound, profileRefusal, questionRefusal, questionIn, answerRefusal}
 use Rattle.meaning.specs.Pattern.{IsU, tOf, writtenTree}
-use Rattle.meaning.specs.Operations.{Decides, refusedBy, filled, implied, notImplied, labelsIn, keysIn}
+use Rattle.meaning.specs.Operations.{Decides, refusedBy, filled, implied, notImplied, singleIn, labelsIn, keysIn}
 use Rattle.theory_operations.specs.Refusing.{unless-small, unless-sound, unless-refused, sound-more, sound-end, first-passes, first-stops, answer-large, profile-settled, question-settled, first-named, sound-number}
-use Rattle.theory_derive.specs.Spots.{Taken, Chain}
+use Rattle.theory_derive.specs.Spots.{Taken, Ends, Chain}
 use Rattle.theory_decide.specs.Implied.{proofBytesOf, implied-written}
 use Rattle.theory_decide.specs.NotImplied.{not-implied-written}
 
@@ -42,13 +42,13 @@ module _ (profile question buffer : List ℕ) where
         passed = sound-more _ _ (answer-large buffer room) (sound-more _ _ (sound-number p) (sound-more _ _ (sound-number q) sound-end))
 
         pub decide-implied : {u : ℕ} {steps : List Taken} (chain : Chain (keysIn profile) (questionIn question) u steps)
-            (reached : u ≡ tOf (questionIn question))
+            (reached : Ends (singleIn profile) (questionIn question) u)
             → Decides profile question buffer (filled implied (proofBytesOf profile question (sound-number p) (sound-number q) chain reached) buffer)
         unfolding Decides
         decide-implied chain reached =
             unless-sound _ buffer _ _ passed (inl (implied-written profile question (sound-number p) (sound-number q) chain reached buffer room))
 
-        pub decide-not : (u : ℕ) → IsU (keysIn profile) (questionIn question) u → u < tOf (questionIn question)
+        pub decide-not : (u : ℕ) → IsU (singleIn profile) (keysIn profile) (questionIn question) u → u < tOf (questionIn question)
             → Decides profile question buffer (filled notImplied (writtenTree (classOf (labelsIn profile)) (questionIn question) u) buffer)
         unfolding Decides
         decide-not u isU below =

@@ -5,15 +5,15 @@ use mathlib.Core.Bool.{Bool, true, false, cond}
 use mathlib.Core.List.{List, [], _∷_, _++_, append-nil}
 use mathlib.Core.Option.{Option, some, Option·none-ne-some, Option·some-injective}
 use native.Mathlib.Omega.{arith}
-use lib.Dec.{leb}
+use lib.Dec.{T, leb}
 use lib.ListN.{length, take, drop, getD, getElem?, length-append, length-map, drop-of-length-le}
-use lib.Seq.{take-append-seam, drop-append-seam}
-use borrow.Author.Tests.{leb-true, leb-false}
-use Rattle.meaning.specs.Limits.{inProfile, inProof, noNumber}
-use Rattle.meaning.specs.Lists.{Each}
+use lib.Seq.{take-append-seam, drop-append-seam, drop-cons}
+use borrow.Author.Tests.{leb-true, leb-false, lt-ltb, le-ltb}
+use Rattle.meaning.specs.Limits.{inProfile, inProof}
+use Rattle.meaning.specs.Lists.{Each, also}
 use Rattle.meaning.specs.Paths.{Label, norm}
 use Rattle.meaning.specs.Keys.{Key}
-use Rattle.meaning.specs.Rules.{Line, Epsilon, rule1, rule7, lineKeys, EndsWith, Accepted, ContextTarget}
+use Rattle.meaning.specs.Rules.{Line, Epsilon, rule1, rule7, FollowsIn, shared, rule10, lineKeys, EndsWith, Accepted, ContextTarget}
 use Rattle.meaning.specs.Records.{noKey}
 use Rattle.meaning.specs.Refusals.{firstOf, keyTests}
 use Rattle.meaning.specs.Pattern.{qOf, tOf}
@@ -22,12 +22,12 @@ use Rattle.theory_paths.specs.Normal.{norm-of-normal}
 use Rattle.theory_paths.specs.Good.{GoodKey, tests-of-good, context-normal, target-length, paths-within}
 use Rattle.theory_derive.specs.Logic.{each-imp, found-mem, found-later, found-before}
 use Rattle.theory_derive.specs.Parts.{take-part, part-drop, join-norms, join-norm}
-use Rattle.theory_derive.specs.Spots.{Taken, Fires, FiresBy, Chain, begun, taken, chainOf, holdsEmpty, part}
+use Rattle.theory_derive.specs.Spots.{Taken, Ends, atT, aboveSingle, Fires, FiresBy, Chain, begun, taken, chainOf, holdsEmpty, part}
 use Rattle.theory_derive.specs.Written
 use Rattle.theory_derive.specs.Sets
-use Rattle.theory_derive.specs.Written.{keyOf, keyAt, oneLine, twoLine, above, toT, narrowed, atSpot, united, opening, chainLines, emptyLines, endLines, stepLines, takenLines, linesFrom, proofLines}
+use Rattle.theory_derive.specs.Written.{keyOf, keyAt, oneLine, twoLine, above, toT, narrowed, atSpot, united, opening, chainLines, emptyLines, endLines, stepLines, takenLines, linesFrom, firstLine, proofLines}
 use Rattle.theory_derive.specs.Lines.{good-at, good-wider, chain-length}
-use Rattle.theory_derive.specs.Runs.{FineLine, Runs, done, next, runs-append, runs-shift, runs-fine, runs-follow}
+use Rattle.theory_derive.specs.Runs.{FineLine, Runs, done, next, runs-append, runs-shift, runs-fine, first-follow}
 use Rattle.theory_derive.specs.Follow.{opening-runs, chain-runs}
 use Rattle.theory_derive.specs.FollowBelow.{end-runs, empty-runs}
 
@@ -171,40 +171,66 @@ module _ (labels : List Label) (keys : List Key) (asked : Key) (gk : Each (GoodK
   unfolding qOf tOf
   steps-few chain = let r = turns chain in omega (arith, target-length labels inProfile asked g)
 
-  lines-end : {u : ℕ} {steps : List Taken} → Chain keys asked u steps → LinesEnd asked 66 (proofLines keys asked steps)
+  lines-end : {u : ℕ} {steps : List Taken} → Chain keys asked u steps → LinesEnd asked 66 (proofLines keys asked u steps)
   unfolding proofLines EndsWith lineKeys
-  lines-end {steps} chain =
-      let r = ends-append (oneLine 1 noNumber (keyAt asked (tOf asked)) ∷ []) (linesFrom keys asked 1 steps) 1 (omega arith) (from-ends steps 1) in
+  lines-end {u} {steps} chain =
+      let r = ends-append (firstLine asked u ∷ []) (linesFrom keys asked 1 steps) 1 (omega arith) (from-ends steps 1) in
       record { last = r .last; any = r .any; few = omega (arith, r .few, steps-few chain) }
 
-  pub proof-runs : {u : ℕ} {steps : List Taken} → Chain keys asked u steps → u ≡ tOf asked → Runs labels keys [] [] (proofLines keys asked steps)
-  unfolding proofLines oneLine Epsilon keyAt keyOf norm
-  proof-runs {u} {steps} chain e =
-      next (rule1 refl refl refl ends)
-      (record { good = good-at labels asked g (tOf asked); few = omega (arith, paths-within labels inProfile asked g) })
-      (runs-shift [] (keyAt asked (tOf asked) ∷ [])
-      (from-runs chain (tOf asked) (omega arith) (keyAt asked (tOf asked) ∷ []) 1 refl (omega arith) refl))
-    where
-      ends : norm (drop (tOf asked) (chainOf asked)) ≡ []
-      ends = ap norm (drop-of-length-le (chainOf asked) {i = tOf asked} (omega (arith, chain-length asked)))
+  -- the lines behind the first, each by a rule of both editions
+  behind-first : {u : ℕ} {steps : List Taken} → Chain keys asked u steps → Runs labels keys (keyAt asked u ∷ []) [] (linesFrom keys asked 1 steps)
+  behind-first {u} chain = from-runs chain u (omega arith) (keyAt asked u ∷ []) 1 refl (omega arith) refl
+
+  first-fine : (u : ℕ) → FineLine labels (firstLine asked u)
+  unfolding firstLine oneLine keyAt keyOf
+  first-fine u = record { good = good-at labels asked g u; few = omega (arith, paths-within labels inProfile asked g) }
 
   -- "A proof is accepted if each line follows and the last line's key is the question."
-  pub proof-accepted : {u : ℕ} {steps : List Taken} → Chain keys asked u steps → u ≡ tOf asked → Accepted labels keys asked (proofLines keys asked steps)
-  proof-accepted {steps} chain e =
-      record { each = runs-follow (proofLines keys asked steps) (proof-runs chain e); last = lines-end chain .last }
+  module _ (single : ℕ → Bool) (clear : T (single 0) → ⊥) where
+    first-follows : (u : ℕ) → Ends single asked u → FollowsIn single labels keys [] (firstLine asked u)
+    unfolding firstLine oneLine Epsilon keyAt keyOf norm
+    first-follows u (atT e) =
+        shared (rule1 (ap (λ (b : Bool). cond b 10 1) (le-ltb u (tOf asked) (omega arith))) refl refl ends)
+      where
+        ends : norm (drop u (chainOf asked)) ≡ []
+        ends = ap norm (drop-of-length-le (chainOf asked) {i = u} (omega (arith, chain-length asked)))
+    first-follows u (aboveSingle e s) =
+        rule10 (ap (λ (b : Bool). cond b 10 1) (lt-ltb u (tOf asked) (omega arith))) refl refl
+        (record {
+          label = getD (chainOf asked) u 0;
+          isSingle = s;
+          target =
+              ap norm (drop-cons (chainOf asked) u 0 (omega (arith, chain-length asked))
+              ∙ ap (λ r. getD (chainOf asked) u 0 ∷ r) (drop-of-length-le (chainOf asked) {i = suc u} (omega (arith, chain-length asked))))
+              ∙ alone (getD (chainOf asked) u 0) s;
+        })
+      where
+        alone : (n : ℕ) → T (single n) → norm (n ∷ []) ≡ n ∷ []
+        alone zero t = absurd (clear t)
+        alone (suc n) t = refl
+
+    pub proof-accepted : {u : ℕ} {steps : List Taken} → Chain keys asked u steps → Ends single asked u
+        → Accepted single labels keys asked (proofLines keys asked u steps)
+    unfolding proofLines
+    proof-accepted {u} {steps} chain e =
+        record { each = first-follow single (firstLine asked u) (linesFrom keys asked 1 steps) (first-follows u e) (behind chain); last = lines-end chain .last }
+      where
+        behind : Chain keys asked u steps → Runs labels keys (firstLine asked u .key ∷ []) [] (linesFrom keys asked 1 steps)
+        behind c = unfold firstLine oneLine in behind-first c
 
   -- each line is well formed, with at most 8 key paths
-  pub proof-fine : {u : ℕ} {steps : List Taken} → Chain keys asked u steps → u ≡ tOf asked → Each (FineLine labels) (proofLines keys asked steps)
-  proof-fine chain e = runs-fine (proof-runs chain e)
+  pub proof-fine : {u : ℕ} {steps : List Taken} → Chain keys asked u steps → Each (FineLine labels) (proofLines keys asked u steps)
+  unfolding proofLines
+  proof-fine {u} chain = also (first-fine u) (runs-fine (behind-first chain))
 
   -- and so its tests give no refusal
-  pub proof-tests : {u : ℕ} {steps : List Taken} → Chain keys asked u steps → u ≡ tOf asked
-      → Each (λ (l : Line). firstOf (keyTests labels inProof (l .key)) ≡ 0) (proofLines keys asked steps)
-  proof-tests chain e = each-imp (λ l h. tests-of-good labels inProof (l .key) (h .good)) (proof-fine chain e)
+  pub proof-tests : {u : ℕ} {steps : List Taken} → Chain keys asked u steps
+      → Each (λ (l : Line). firstOf (keyTests labels inProof (l .key)) ≡ 0) (proofLines keys asked u steps)
+  proof-tests chain = each-imp (λ l h. tests-of-good labels inProof (l .key) (h .good)) (proof-fine chain)
 
   -- "At most 1 + 8·8 + 1 = 66 lines"
-  pub proof-few : {u : ℕ} {steps : List Taken} → Chain keys asked u steps → length (proofLines keys asked steps) ≤ 66
+  pub proof-few : {u : ℕ} {steps : List Taken} → Chain keys asked u steps → length (proofLines keys asked u steps) ≤ 66
   proof-few chain = lines-end chain .few
 
-  pub proof-some : {u : ℕ} {steps : List Taken} → Chain keys asked u steps → 1 ≤ length (proofLines keys asked steps)
+  pub proof-some : {u : ℕ} {steps : List Taken} → Chain keys asked u steps → 1 ≤ length (proofLines keys asked u steps)
   proof-some chain = lines-end chain .any

@@ -1,10 +1,9 @@
 -- ARGUMENT 5: the written proof is "far inside 256 lines and 65,536 bytes".
 use Prim.Native.Nat.{ℕ, _+_, _-_, _*_, _≤_, _<_}
-use mathlib.Core.Path.{_≡_}
 use mathlib.Core.Bool.{Bool, true, false, cond}
 use mathlib.Core.List.{List, [], _∷_, _++_, map, flatten}
 use native.Mathlib.Omega.{arith}
-use lib.Dec.{leb}
+use lib.Dec.{leb, ltb}
 use lib.ListN.{length, getD, length-append}
 use Rattle.meaning.specs.Limits.{inProfile, inProof, noNumber}
 use Rattle.meaning.specs.Lists.{Each, end, also}
@@ -17,7 +16,7 @@ use Rattle.theory_paths.specs.Bools.{Each-of}
 use Rattle.theory_paths.specs.Good.{GoodKey, context-length, target-length, key-path-length}
 use Rattle.theory_derive.specs.Logic.{each-imp, each-append, found-below}
 use Rattle.theory_derive.specs.Spots.{Taken, Chain, begun, taken, holdsEmpty}
-use Rattle.theory_derive.specs.Written.{keyAt, oneLine, twoLine, opening, chainLines, emptyLines, endLines, stepLines, takenLines, linesFrom, proofLines}
+use Rattle.theory_derive.specs.Written.{keyAt, oneLine, twoLine, opening, chainLines, emptyLines, endLines, stepLines, takenLines, linesFrom, firstLine, proofLines}
 use Rattle.theory_derive.specs.Runs.{FineLine}
 use Rattle.theory_derive.specs.Accept.{proof-fine, proof-few, steps-few, step-ends}
 
@@ -52,12 +51,12 @@ module _ (labels : List Label) (l : Line) (h : FineLine labels l) where
   line-bytes-length = omega (arith, key-body-length)
 
 module _ (labels : List Label) (keys : List Key) (asked : Key) (gk : Each (GoodKey labels inProfile) keys) (g : GoodKey labels inProfile asked) where
-  pub proof-bytes : {u : ℕ} {steps : List Taken} → Chain keys asked u steps → u ≡ tOf asked
-      → length (flatten (map lineBytes (proofLines keys asked steps))) ≤ 65536
-  proof-bytes {steps} chain e =
+  pub proof-bytes : {u : ℕ} {steps : List Taken} → Chain keys asked u steps
+      → length (flatten (map lineBytes (proofLines keys asked u steps))) ≤ 65536
+  proof-bytes {u} {steps} chain =
       omega (
         arith,
-        flatten-length lineBytes 212 (each-imp (λ l h. line-bytes-length labels l h) (proof-fine labels keys asked gk g chain e)),
+        flatten-length lineBytes 212 (each-imp (λ l h. line-bytes-length labels l h) (proof-fine labels keys asked gk g chain)),
         proof-few labels keys asked gk g chain,
       )
 
@@ -111,7 +110,11 @@ from-fits keys asked m (taken {steps} t chain un f uk iu) at a =
     (from-fits keys asked m chain (at + length (takenLines keys asked t at)) (omega (arith, r .few)))
 
 module _ (labels : List Label) (keys : List Key) (asked : Key) (gk : Each (GoodKey labels inProfile) keys) (g : GoodKey labels inProfile asked) where
-  pub proof-fields : length keys ≤ 65536 → {u : ℕ} {steps : List Taken} → Chain keys asked u steps → Each FieldsFit (proofLines keys asked steps)
-  unfolding proofLines
-  proof-fields m {steps} chain =
-      also (one-fits 1 noNumber _ (omega arith) (omega arith)) (from-fits keys asked m chain 1 (omega (arith, steps-few labels keys asked gk g chain)))
+  pub proof-fields : length keys ≤ 65536 → {u : ℕ} {steps : List Taken} → Chain keys asked u steps → Each FieldsFit (proofLines keys asked u steps)
+  unfolding proofLines firstLine
+  proof-fields m {u} {steps} chain =
+      also (one-fits _ noNumber _ (small (ltb u (tOf asked))) (omega arith)) (from-fits keys asked m chain 1 (omega (arith, steps-few labels keys asked gk g chain)))
+    where
+      small : (b : Bool) → cond b 10 1 < 256
+      small true = omega arith
+      small false = omega arith

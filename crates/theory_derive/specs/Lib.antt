@@ -17,6 +17,8 @@ pub mod Bytes
 pub mod Numbers
 pub mod Places
 pub mod Marks
+pub mod Singles
 pub mod Steps
 pub mod Lowest
 pub mod Ranges
+pub mod PatternOnce

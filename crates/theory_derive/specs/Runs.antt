@@ -2,6 +2,7 @@
 use Prim.Native.Nat.{ℕ, zero, suc, _≤_, _<_}
 use mathlib.Core.Path.{_≡_, refl, sym, subst}
 use mathlib.Core.List.{List, [], _∷_, _++_, append-assoc, append-nil}
+use mathlib.Core.Bool.{Bool}
 use mathlib.Core.Option.{some}
 use native.Mathlib.Omega.{arith}
 use lib.ListN.{length, take, getElem?}
@@ -9,7 +10,7 @@ use Rattle.meaning.specs.Limits.{inProof}
 use Rattle.meaning.specs.Lists.{Each, end, also}
 use Rattle.meaning.specs.Paths.{Label}
 use Rattle.meaning.specs.Keys.{Key}
-use Rattle.meaning.specs.Rules.{Line, Follows, FollowsBelow, lineKeys}
+use Rattle.meaning.specs.Rules.{Line, Follows, FollowsIn, shared, FollowsBelow, lineKeys}
 use Rattle.theory_paths.specs.Good.{GoodKey}
 
 -- A line of the written proof: its key is well formed and has at most 8 key paths
@@ -44,15 +45,20 @@ module _ {labels : List Label} {keys : List Key} where
   runs-fine (next f g q) = also g (runs-fine q)
 
   -- by line numbers, as 01's acceptance says it
-  pub runs-at : {written : List Key} {xs : List Line} (n : ℕ) → Runs labels keys [] written xs → n < length xs
-      → (l : Line) × (getElem? xs n ≡ some l) × Follows labels keys (written ++ lineKeys (take n xs)) l
+  runs-at : {earlier written : List Key} {xs : List Line} (n : ℕ) → Runs labels keys earlier written xs → n < length xs
+      → (l : Line) × (getElem? xs n ≡ some l) × Follows labels keys (earlier ++ (written ++ lineKeys (take n xs))) l
   unfolding lineKeys
   runs-at n done h = absurd (let z : n < 0 = h in omega arith)
-  runs-at {written} zero (next {l} f g q) h = (l, refl, subst (λ w. Follows labels keys w l) (sym (append-nil written)) f)
-  runs-at {written} (suc n) (next {l} {ls} f g q) h =
+  runs-at {earlier} {written} zero (next {l} f g q) h = (l, refl, subst (λ w. Follows labels keys (earlier ++ w) l) (sym (append-nil written)) f)
+  runs-at {earlier} {written} (suc n) (next {l} {ls} f g q) h =
       let r = runs-at n q (let z : suc n < suc (length ls) = h in omega arith) in
-      (r .0, r .1, subst (λ w. Follows labels keys w (r .0)) (append-assoc written (l .key ∷ []) (lineKeys (take n ls))) (r .2))
+      (r .0, r .1, subst (λ w. Follows labels keys (earlier ++ w) (r .0)) (append-assoc written (l .key ∷ []) (lineKeys (take n ls))) (r .2))
 
-  pub runs-follow : (xs : List Line) → Runs labels keys [] [] xs → FollowsBelow labels keys xs (length xs)
-  unfolding FollowsBelow
-  runs-follow xs r n h = let a = runs-at n r h in record { line = a .0; stands = a .1; follows = a .2 }
+  -- a first line that follows in the edition, and what follows from it by the rules of both
+  pub first-follow : (single : ℕ → Bool) (first : Line) (xs : List Line) → FollowsIn single labels keys [] first
+      → Runs labels keys (first .key ∷ []) [] xs → FollowsBelow single labels keys (first ∷ xs) (length (first ∷ xs))
+  unfolding FollowsBelow lineKeys
+  first-follow single first xs f r zero h = record { line = first; stands = refl; follows = f }
+  first-follow single first xs f r (suc n) h =
+      let a = runs-at n r (let z : suc n < suc (length xs) = h in omega arith) in
+      record { line = a .0; stands = a .1; follows = shared (a .2) }

@@ -1,5 +1,5 @@
 -- ARGUMENT 4: "The pattern as four lines of symbols". Spots, marks and steps, all by their numbers: what the decider runs over.
-use Prim.Native.Nat.{ℕ, _+_, _≤_, _<_, min}
+use Prim.Native.Nat.{ℕ, suc, _+_, _≤_, _<_, min}
 use mathlib.Core.Path.{_≡_}
 use mathlib.Core.Bool.{Bool, false, cond, _&&_, _||_}
 use mathlib.Core.List.{List, [], _∷_, _++_}
@@ -85,6 +85,11 @@ pub record Fires (keys : List Key) (asked : Key) (t : Taken) : Type 0 where
   pub by : Key
   pub cited : getElem? keys (t .key) ≡ some by
   pub firing : FiresBy asked by (t .node) (t .branch) (t .spot)
+
+-- Where the loop's u says implied: it is t, or in edition 2 the parent of t, which is an attribute and "may step to its parent"
+pub data Ends (single : ℕ → Bool) (asked : Key) (u : ℕ) : Type 0 where
+  atT : u ≡ tOf asked → Ends single asked u
+  aboveSingle : suc u ≡ tOf asked → T (single (getD (chainOf asked) u 0)) → Ends single asked u
 
 -- The loop of ARGUMENT 4: u := c; while u < n and some key lets (j, k), k > u, step to a chain node i ≤ u: u := min k n. The steps that
 -- were taken, the latest first

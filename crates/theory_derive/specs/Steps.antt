@@ -2,6 +2,7 @@
 use Prim.Native.Nat.{ℕ, _+_, _-_, _≤_, _<_}
 use mathlib.Core.Path.{_≡_, refl, sym, ap, subst, subst₂, _∙_}
 use mathlib.Core.Logic.{⊎-elim}
+use mathlib.Core.Bool.{Bool}
 use mathlib.Core.List.{List}
 use native.Mathlib.Omega.{arith}
 use lib.Dec.{T}
@@ -77,9 +78,9 @@ module _ (asked : Key) where
           }
 
   -- a step on the lines is a step of the pattern
-  pub fires-step : (keys : List Key) (t : Taken) → Fires keys asked t → Step keys asked (spotNode asked (t .branch) (t .spot)) (t .node)
+  pub fires-step : (single : ℕ → Bool) (keys : List Key) (t : Taken) → Fires keys asked t → Step single keys asked (spotNode asked (t .branch) (t .spot)) (t .node)
   unfolding part
-  fires-step keys t f =
+  fires-step single keys t f =
       let g = f .firing in
       let spot : IsSpot asked (t .branch) (t .spot) = record { isBranch = g .isBranch; onLine = g .onLine } in
       let root = spot-chain asked (t .branch) 0 (omega arith) in

@@ -2,7 +2,7 @@
 use Prim.Native.Nat.{ℕ, _+_, _-_}
 use mathlib.Core.Bool.{cond}
 use mathlib.Core.List.{List, [], _∷_, _++_, map}
-use lib.Dec.{leb}
+use lib.Dec.{leb, ltb}
 use lib.ListN.{length, getD, take, drop}
 use Rattle.meaning.specs.Limits.{noNumber}
 use Rattle.meaning.specs.Paths.{norm}
@@ -98,6 +98,9 @@ linesFrom keys asked at (t ∷ steps) =
     let lines = takenLines keys asked t at in
     lines ++ linesFrom keys asked (at + length lines) steps
 
--- "K n is rule 1, the first line (written always ..)"
-unfoldable pub proofLines : List Key → Key → List Taken → List Line
-proofLines keys asked steps = oneLine 1 noNumber (keyAt asked (tOf asked)) ∷ linesFrom keys asked 1 steps
+-- "K n is rule 1, the first line (written always ..)"; where the loop ended above t, K u is rule 10
+unfoldable pub firstLine : Key → ℕ → Line
+firstLine asked u = oneLine (cond (ltb u (tOf asked)) 10 1) noNumber (keyAt asked u)
+
+unfoldable pub proofLines : List Key → Key → ℕ → List Taken → List Line
+proofLines keys asked u steps = firstLine asked u ∷ linesFrom keys asked 1 steps

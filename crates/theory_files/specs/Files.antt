@@ -37,9 +37,9 @@ class-same labels good classes small tabled = fun-ext (λ n. go n (decLt n 256))
     go n (yes h) = class-tabled tabled n h
     go n (no h) = beyond-table classes n small (omega arith) ∙ sym (beyond-labels labels good n (omega arith))
 
-module _ (labels : List Label) (bytes : List ℕ) (accepted : treeRefusal labels bytes .number ≡ 0) where
-  facts : TreeAccepted labels bytes
-  facts = tree-accepts labels bytes accepted
+module _ (second : Bool) (labels : List Label) (bytes : List ℕ) (accepted : treeRefusal second labels bytes .number ≡ 0) where
+  facts : TreeAccepted second labels bytes
+  facts = tree-accepts second labels bytes accepted
 
   w : ℕ
   w = fileStride bytes
@@ -48,8 +48,8 @@ module _ (labels : List Label) (bytes : List ℕ) (accepted : treeRefusal labels
   unfolding w fileStride stride
   same-stride = refl
 
-  count : length bytes ≡ w * length (nodesIn labels bytes)
-  count = facts .size ∙ ap (λ (k : ℕ). k * length (nodesIn labels bytes)) (sym same-stride)
+  count : length bytes ≡ w * length (nodesIn second labels bytes)
+  count = facts .size ∙ ap (λ (k : ℕ). k * length (nodesIn second labels bytes)) (sym same-stride)
 
   -- behind the last byte there is none
   none : (i : ℕ) → length bytes ≤ w * i → nodeAt w bytes i ≡ noNode
@@ -68,14 +68,14 @@ module _ (labels : List Label) (bytes : List ℕ) (accepted : treeRefusal labels
   beyond : (n i : ℕ) → (i < n → ⊥) → length bytes ≡ w * n → length bytes ≤ w * i
   beyond n i h e = let m = mul-le-mul-left w (let q : n ≤ i = omega arith in q) in omega arith
 
-  node-same : (i : ℕ) → nodeAt w bytes i ≡ getD (nodesIn labels bytes) i noNode
-  node-same i = go (decLt i (length (nodesIn labels bytes)))
+  node-same : (i : ℕ) → nodeAt w bytes i ≡ getD (nodesIn second labels bytes) i noNode
+  node-same i = go (decLt i (length (nodesIn second labels bytes)))
     where
-      go : Dec (i < length (nodesIn labels bytes)) → nodeAt w bytes i ≡ getD (nodesIn labels bytes) i noNode
+      go : Dec (i < length (nodesIn second labels bytes)) → nodeAt w bytes i ≡ getD (nodesIn second labels bytes) i noNode
       go (yes h) = ap (λ (k : ℕ). nodeAt k bytes i) same-stride ∙ sym (facts .are i h)
-      go (no h) = none i (beyond _ i h count) ∙ sym (List·getD-eq-default (nodesIn labels bytes) noNode {n = i} (omega arith))
+      go (no h) = none i (beyond _ i h count) ∙ sym (List·getD-eq-default (nodesIn second labels bytes) noNode {n = i} (omega arith))
 
-  pub file-table : fileTable bytes ≡ tableOf (nodesIn labels bytes)
+  pub file-table : fileTable bytes ≡ tableOf (nodesIn second labels bytes)
   unfolding fileTable tableOf nodeAt w
   file-table =
       let size = div-eq-of-eq-mul-right (let q : 0 < fileStride bytes = omega (arith, stride-least bytes) in q) count in
@@ -93,9 +93,9 @@ module _ (labels : List Label) (bytes : List ℕ) (accepted : treeRefusal labels
       let same = class-same labels good classes small tabled in
       let t : IsTree (classBy classes) (fileTable bytes) =
       subst (λ κ. IsTree κ (fileTable bytes)) (sym same)
-      (subst (λ (x : Table). IsTree (classOf labels) x) (sym file-table) (tree-is-tree labels good bytes accepted)) in
-      let e : fileTable bytes .size ≡ length (nodesIn labels bytes) = ap (λ (x : Table). x .size) file-table in
-      let few : length (nodesIn labels bytes) ≤ 4096 = facts .few in
+      (subst (λ (x : Table). IsTree (classOf labels) x) (sym file-table) (tree-is-tree second labels good bytes accepted)) in
+      let e : fileTable bytes .size ≡ length (nodesIn second labels bytes) = ap (λ (x : Table). x .size) file-table in
+      let few : length (nodesIn second labels bytes) ≤ 4096 = facts .few in
       record {
         whole = count ∙ ap (λ (k : ℕ). fileStride bytes * k) (sym e);
         some = t .some;

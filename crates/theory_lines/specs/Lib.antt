@@ -4,3 +4,4 @@ pub mod Subnodes
 pub mod Interactions
 pub mod Cuts
 pub mod LineTest
+pub mod EditionTest

@@ -91,9 +91,9 @@ pub question-settled : (labels : List Label) (bytes : List ℕ) → Settled (que
 unfolding questionRefusal
 question-settled labels bytes = first-settled _
 
-pub tree-settled : (labels : List Label) (bytes : List ℕ) → Settled (treeRefusal labels bytes)
+pub tree-settled : (second : Bool) (labels : List Label) (bytes : List ℕ) → Settled (treeRefusal second labels bytes)
 unfolding treeRefusal
-tree-settled labels bytes = first-settled _
+tree-settled second labels bytes = first-settled _
 
 -- a refusal that names its input refuses, and is the first
 pub named-refuses : (r s : Refusal) → Settled s → r ≡ s → 0 < r .input → s .number ≡ 0 → ⊥

@@ -3,6 +3,7 @@
 use Prim.Native.Nat.{ℕ, zero, suc, _≤_, _<_, _-_}
 use mathlib.Core.Path.{_≡_, refl, sym, _∙_, ap, subst}
 use mathlib.Core.Logic.{_⊎_, inl, inr, ⊎-elim}
+use mathlib.Core.Bool.{Bool}
 use mathlib.Core.List.{List, [], _∷_, List·Memᴰ}
 use mathlib.Core.Option.{Option, none, some}
 use native.Mathlib.Omega.{arith}
@@ -65,14 +66,14 @@ least-unique {P} m n below-m fails-m below-n fails-n = go (decLt m n) (decLt n m
     go (no h) (yes k) = absurd (fails-n (below-m n k))
     go (no h) (no k) = omega arith
 
-module _ (labels : List Paths.Label) (keys : List Key) (question : Key) (walked : Walked (List Line)) where
+module _ (single : ℕ → Bool) (labels : List Paths.Label) (keys : List Key) (question : Key) (walked : Walked (List Line)) where
   -- a line that does not follow is none of lines that all follow
-  clash : (n : ℕ) → n < length (walked .state) → (FollowsAt labels keys (walked .state) n → ⊥)
-      → FollowsBelow labels keys (walked .state) (length (walked .state)) → ⊥
+  clash : (n : ℕ) → n < length (walked .state) → (FollowsAt single labels keys (walked .state) n → ⊥)
+      → FollowsBelow single labels keys (walked .state) (length (walked .state)) → ⊥
   unfolding FollowsBelow
   clash n h fails all = fails (all n h)
 
-  pub judged-unique : (a b : Answer) → ProofJudged labels keys question walked a → ProofJudged labels keys question walked b → a ≡ b
+  pub judged-unique : (a b : Answer) → ProofJudged single labels keys question walked a → ProofJudged single labels keys question walked b → a ≡ b
   unfolding FollowsBelow
   judged-unique a b (unfollowed m h l f p) (unfollowed n h′ l′ f′ q) =
       p ∙ ap (λ (x : ℕ). refusedBy (record { number = 9; input = 3; place = x }) []) (least-unique m n l f l′ f′) ∙ sym q
@@ -95,7 +96,7 @@ module _ (labels : List Paths.Label) (keys : List Key) (question : Key) (walked 
 pub checks-proof-unique : (profile question proof : List ℕ) (a b : Answer) → ChecksProof profile question proof a → ChecksProof profile question proof b
     → a ≡ b
 unfolding ChecksProof
-checks-proof-unique profile question proof a b = unless-unique _ _ _ (judged-unique _ _ _ _) a b
+checks-proof-unique profile question proof a b = unless-unique _ _ _ (judged-unique _ _ _ _ _) a b
 
 module _ (profile question tree : List ℕ) where
   pub counterexample-unique : (a b : Answer) → CounterexampleJudged profile question tree a → CounterexampleJudged profile question tree b → a ≡ b
@@ -123,8 +124,8 @@ module _ (profile question tree : List ℕ) where
   checks-counterexample-unique a b = unless-unique _ _ _ counterexample-unique a b
 
 -- "u is the lowest node": there is one
-pub u-unique : (keys : List Key) (asked : Key) (u v : ℕ) → IsU keys asked u → IsU keys asked v → u ≡ v
-u-unique keys asked u v p q = go (decLt u v) (decLt v u)
+pub u-unique : (single : ℕ → Bool) (keys : List Key) (asked : Key) (u v : ℕ) → IsU single keys asked u → IsU single keys asked v → u ≡ v
+u-unique single keys asked u v p q = go (decLt u v) (decLt v u)
   where
     go : Dec (u < v) → Dec (v < u) → u ≡ v
     go (yes h) d = absurd (p .lowest v h (q .toT) (q .leads))
@@ -145,7 +146,7 @@ module _ (profile question buffer : List ℕ) where
   written-unique a b p q =
       p .answered
       ∙ ap (λ (u : ℕ). Operations.filled Operations.notImplied (Pattern.writtenTree (Paths.classOf (Operations.labelsIn profile)) (Refusals.questionIn question) u) buffer)
-      (u-unique _ _ (p .u) (q .u) (p .isU) (q .isU))
+      (u-unique _ _ _ (p .u) (q .u) (p .isU) (q .isU))
       ∙ sym (q .answered)
 
   below-unique : (a b : Answer) → Below a → Below b → (a ≡ b) ⊎ BothProofs profile question buffer a b

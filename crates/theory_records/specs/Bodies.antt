@@ -2,18 +2,22 @@
 use Prim.Native.Nat.{ℕ, zero, suc, _+_, _*_, _-_, _≤_, _<_}
 use mathlib.Core.Path.{_≡_, refl, sym, subst, ap, _∙_}
 use mathlib.Core.Logic.{_⊎_, inl, inr, ⊎-elim}
-use mathlib.Core.Bool.{Bool, true, false}
+use mathlib.Core.Bool.{Bool, true, false, cond}
+use borrow.Author.Tests.{eqb-true}
+use lib.Dec.{eqb}
 use mathlib.Core.List.{List, [], _∷_, _++_}
 use native.Mathlib.Omega.{arith}
 use native.Mathlib.Nat.{eq-or-lt-of-le, le-of-suc-le-suc, zero-add, suc-add}
 use lib.ListN.{length, drop, length-append}
 use Rattle.meaning.specs.Keys.{Key}
 use Rattle.meaning.specs.Records.{word, recordLength, recordKind, recordBody, keyIn, keyBody, pathBytes}
-use Rattle.meaning.specs.Refusals.{firstOf, Profile, noProfile, profileTests, profileNext, profileWalked, profileRefusal}
+use Rattle.meaning.specs.Refusals.{firstOf, Profile, noProfile, profileTests, profileNext, whole, hasEdition, behindEdition, firstEntry, profileWalked, profileRefusal}
 use Rattle.meaning.specs.Operations.{recordsFrom, orNothing, bodyAt}
 use Rattle.theory_records.specs.Walks.{Stopped, walk-keeps}
 use Rattle.theory_records.specs.KeyBodies.{key-in-written}
-use Rattle.theory_records.specs.Encodings.{ends-label, ends-key}
+use Rattle.theory_records.specs.Encodings.{ends-label, ends-key, ends-edition}
+use Rattle.theory_records.specs.Tests.{both}
+use Rattle.theory_records.specs.Heads.{whole-says}
 use Rattle.theory_records.specs.Judged.{LabelAccepted, KeyRecordAccepted, profile-accepted}
 use Rattle.theory_records.specs.Profiles.{profile-long, profile-accepts}
 
@@ -61,6 +65,26 @@ bodies-kept bytes n p l g h e =
           (eq-or-lt-of-le (le-of-suc-le-suc k));
     }
 
+-- what stands behind the edition's record, and its own body
+pub behind-here : (bytes : List ℕ) → behindEdition bytes ≡ recordsFrom (firstEntry bytes) bytes
+unfolding behindEdition firstEntry recordsFrom
+behind-here bytes = go (hasEdition bytes)
+  where
+    go : (b : Bool) → cond b (drop (recordLength bytes) bytes) bytes ≡ recordsFrom (cond b 1 0) bytes
+    go true = refl
+    go false = refl
+
+edition-bodies : (bytes : List ℕ) → BodiesAt bytes (firstEntry bytes) (behindEdition bytes)
+unfolding firstEntry recordsFrom
+edition-bodies bytes = record { here = behind-here bytes; some = λ i h. go (hasEdition bytes) refl i h }
+  where
+    go : (b : Bool) → hasEdition bytes ≡ b → (i : ℕ) → i < cond b 1 0 → 0 < length (recordBody (recordsFrom i bytes))
+    go true e zero h =
+        let p = both (whole bytes) (eqb (recordKind bytes) 6) (unfold hasEdition in e) in
+        omega (arith, ends-edition bytes (whole-says bytes (p .0)) (eqb-true _ _ (p .1)))
+    go true e (suc i) h = absurd (omega arith)
+    go false e i h = absurd (omega arith)
+
 -- Of an accepted profile: each record has a body, and behind the last there is nothing
 pub record Bodies (bytes : List ℕ) : Type 0 where
   pub some : (n : ℕ) → n < profileWalked bytes .at → 0 < length (bodyAt bytes n)
@@ -70,8 +94,8 @@ pub bodies : (bytes : List ℕ) → profileRefusal bytes .number ≡ 0 → Bodie
 unfolding profileWalked bodyAt orNothing recordBody
 bodies bytes e =
     let w =
-    walk-keeps profileTests profileNext (λ n p rest. BodiesAt bytes n rest) profile-long (bodies-kept bytes) 0 noProfile bytes
-    (record { here = unfold recordsFrom in refl; some = λ i h. absurd (omega arith) }) in
+    walk-keeps profileTests profileNext (λ n p rest. BodiesAt bytes n rest) profile-long (bodies-kept bytes) (firstEntry bytes) noProfile (behindEdition bytes)
+    (edition-bodies bytes) in
     let last : recordsFrom (profileWalked bytes .at) bytes ≡ [] = sym (w .held .here) ∙ w .sound (profile-accepts bytes e .walked) in
     record {
       some = λ n h. rw e (w .held .some n h);

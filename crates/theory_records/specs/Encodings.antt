@@ -65,6 +65,10 @@ ends-line l w k =
     let e = both _ _ (subst (λ (kind : ℕ). bodyEnds kind (recordBody l) ≡ true) k (w .ends)) in
     (leb-true _ _ (e .0), e .1)
 
+pub ends-edition : (l : List ℕ) → Whole l → recordKind l ≡ 6 → length (recordBody l) ≡ 1
+unfolding bodyEnds
+ends-edition l w k = eqb-true _ _ (subst (λ (kind : ℕ). bodyEnds kind (recordBody l) ≡ true) k (w .ends))
+
 -- the bytes of a record whose kind and body are known
 pub record-is : (l : List ℕ) → Bytes l → Whole l → (kind : ℕ) → recordKind l ≡ kind → (body : List ℕ) → body ≡ recordBody l
     → recordBytes kind body ++ drop (recordLength l) l ≡ l

@@ -10,12 +10,12 @@ use lib.Dec.{leb, eqb}
 use lib.ListN.{length, drop}
 use Rattle.meaning.specs.Limits.{KeyLimits, inProfile, inProof}
 use Rattle.meaning.specs.Lists.{isEmpty}
-use Rattle.meaning.specs.Paths.{Label}
+use Rattle.meaning.specs.Paths.{Label, classOf, singles}
 use Rattle.meaning.specs.Trees.{Node}
 use Rattle.meaning.specs.Keys.{Key}
 use Rattle.meaning.specs.Rules.{Line}
 use Rattle.meaning.specs.Records.{recordLength, recordKind, recordBody, readLabel, keyIn, readNode, readLine}
-use Rattle.meaning.specs.Refusals.{firstOf, tooMany, whole, goodLabel, keyTests, Profile, inProfileOrder, profileTests, questionTests, goodRoot, goodBelow, treeTests, lineTests}
+use Rattle.meaning.specs.Refusals.{firstOf, tooMany, whole, goodLabel, keyTests, Profile, inProfileOrder, profileTests, questionTests, goodRoot, goodBelow, repeated, treeTests, lineTests}
 use Rattle.theory_paths.specs.Good.{GoodKey, good-of-tests}
 use Rattle.theory_records.specs.Tests.{both, either, never, and-true, first-none, first-fails, not-holds}
 use Rattle.theory_records.specs.Heads.{Whole, whole-says}
@@ -118,20 +118,22 @@ question-accepted labels read l e =
     }
 
 -- A node record of a tree
-pub record NodeAccepted (kind : ℕ) (labels : List Label) (nodes : List Node) (l : List ℕ) : Type 0 where
+pub record NodeAccepted (second : Bool) (kind : ℕ) (labels : List Label) (nodes : List Node) (l : List ℕ) : Type 0 where
   pub isWhole : Whole l
   pub isKind : recordKind l ≡ kind
   pub room : length nodes < 4096
   pub good : cond (isEmpty nodes) (goodRoot (readNode (recordBody l))) (goodBelow labels nodes (readNode (recordBody l))) ≡ true
+  pub once : repeated (singles second (classOf labels)) nodes (readNode (recordBody l)) ≡ false
 
-pub node-accepted : (kind : ℕ) (labels : List Label) (nodes : List Node) (l : List ℕ) → firstOf (treeTests kind labels nodes l) ≡ 0
-    → NodeAccepted kind labels nodes l
+pub node-accepted : (second : Bool) (kind : ℕ) (labels : List Label) (nodes : List Node) (l : List ℕ) → firstOf (treeTests second kind labels nodes l) ≡ 0
+    → NodeAccepted second kind labels nodes l
 unfolding treeTests
-node-accepted kind labels nodes l e =
+node-accepted second kind labels nodes l e =
     let seven = first-none _ _ _ e in
     let one = first-none _ _ _ (seven .1) in
     let two = first-none _ _ _ (one .1) in
     let eight = first-none _ _ _ (two .1) in
+    let sixteen = first-none _ _ _ (eight .1) in
     let w = whole-says l (not-false _ (one .0)) in
     let same : recordKind l ≡ kind = eqb-true _ _ (not-false _ (two .0)) in
     record {
@@ -139,6 +141,7 @@ node-accepted kind labels nodes l e =
       isKind = same;
       room = room-says kind 4096 (length nodes) l (w .head) same (seven .0);
       good = not-false _ (eight .0);
+      once = sixteen .0;
     }
 
 -- A line record of a proof, up to 6
@@ -179,11 +182,12 @@ pub question-passes : (labels : List Label) (l : List ℕ) → whole l ≡ true 
 unfolding questionTests firstOf isEmpty
 question-passes labels l w k good = rw (w, k) good
 
-pub node-passes : (kind : ℕ) (labels : List Label) (nodes : List Node) (l : List ℕ) → length nodes < 4096 → whole l ≡ true → recordKind l ≡ kind
+pub node-passes : (second : Bool) (kind : ℕ) (labels : List Label) (nodes : List Node) (l : List ℕ) → length nodes < 4096 → whole l ≡ true → recordKind l ≡ kind
     → cond (isEmpty nodes) (goodRoot (readNode (recordBody l))) (goodBelow labels nodes (readNode (recordBody l))) ≡ true
-    → firstOf (treeTests kind labels nodes l) ≡ 0
+    → repeated (singles second (classOf labels)) nodes (readNode (recordBody l)) ≡ false → firstOf (treeTests second kind labels nodes l) ≡ 0
 unfolding treeTests firstOf
-node-passes kind labels nodes l room w k good = rw (room-left kind 4096 (length nodes) l room, w, eq-eqb (recordKind l) kind k, good)
+node-passes second kind labels nodes l room w k good once =
+    rw (room-left kind 4096 (length nodes) l room, w, eq-eqb (recordKind l) kind k, good, once)
 
 pub line-passes : (labels : List Label) (lines : List Line) (l : List ℕ) → length lines < 256 → whole l ≡ true → recordKind l ≡ 4
     → firstOf (keyTests labels inProof (readLine (recordBody l) .key)) ≡ 0 → firstOf (lineTests labels lines l) ≡ 0

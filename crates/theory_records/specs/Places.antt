@@ -12,7 +12,7 @@ use Rattle.meaning.specs.Paths.{Label}
 use Rattle.meaning.specs.Keys.{Key}
 use Rattle.meaning.specs.Rules.{Line}
 use Rattle.meaning.specs.Records.{recordLength, recordKind, recordBody, readLabel, keyIn, readLine}
-use Rattle.meaning.specs.Refusals.{Walked, firstOf, walk, Profile, noProfile, profileTests, profileNext, profileWalked, profileIn, profileRefusal, lineTests, proofWalked}
+use Rattle.meaning.specs.Refusals.{Walked, firstOf, walk, Profile, noProfile, profileTests, profileNext, behindEdition, firstEntry, profileWalked, profileIn, profileRefusal, lineTests, proofWalked}
 use Rattle.meaning.specs.Operations.{recordsFrom, labelsIn, keysIn}
 use Rattle.theory_paths.specs.Good.{GoodKey}
 use Rattle.theory_records.specs.Walks.{Stopped, walk-keeps}
@@ -20,7 +20,7 @@ use Rattle.theory_records.specs.Heads.{Whole}
 use Rattle.theory_records.specs.Judged.{LabelAccepted, KeyRecordAccepted, profile-accepted, LineAccepted, line-accepted}
 use Rattle.theory_records.specs.Profiles.{length-more, next-label, next-key, profile-long}
 use Rattle.theory_records.specs.Questions.{lines-long}
-use Rattle.theory_records.specs.Bodies.{records-next}
+use Rattle.theory_records.specs.Bodies.{records-next, behind-here}
 
 pub at-left : {A : Type 0} (xs ys : List A) (i : ℕ) → i < length xs → getElem? (xs ++ ys) i ≡ getElem? xs i
 at-left [] ys i h = absurd (omega arith)
@@ -93,13 +93,13 @@ line-place labels bytes i h =
 
 -- Key i of the keys read, behind the labels
 pub record KeyPlace (labels : List Label) (bytes : List ℕ) (keys : List Key) (i : ℕ) : Type 0 where
-  pub is : getElem? keys i ≡ some (keyIn (recordBody (recordsFrom (length labels + i) bytes)))
-  pub isWhole : Whole (recordsFrom (length labels + i) bytes)
-  pub kind : recordKind (recordsFrom (length labels + i) bytes) ≡ 2
-  pub good : GoodKey labels inProfile (keyIn (recordBody (recordsFrom (length labels + i) bytes)))
+  pub is : getElem? keys i ≡ some (keyIn (recordBody (recordsFrom (firstEntry bytes + length labels + i) bytes)))
+  pub isWhole : Whole (recordsFrom (firstEntry bytes + length labels + i) bytes)
+  pub kind : recordKind (recordsFrom (firstEntry bytes + length labels + i) bytes) ≡ 2
+  pub good : GoodKey labels inProfile (keyIn (recordBody (recordsFrom (firstEntry bytes + length labels + i) bytes)))
 
 pub record KeysStand (bytes : List ℕ) (n : ℕ) (p : Profile) (rest : List ℕ) : Type 0 where
-  pub counted : n ≡ length (p .labels) + length (p .keys)
+  pub counted : n ≡ firstEntry bytes + length (p .labels) + length (p .keys)
   pub here : rest ≡ recordsFrom n bytes
   pub each : (i : ℕ) → i < length (p .keys) → KeyPlace (p .labels) bytes (p .keys) i
 
@@ -139,8 +139,8 @@ keys-stand-more bytes n p l g h e =
           each = λ i k.
               ⊎-elim
               (λ (q : i ≡ length (p .keys)).
-              let there : l ≡ recordsFrom (length (p .labels) + i) bytes =
-              g .here ∙ ap (λ (j : ℕ). recordsFrom j bytes) (g .counted ∙ ap (λ (j : ℕ). length (p .labels) + j) (sym q)) in
+              let there : l ≡ recordsFrom (firstEntry bytes + length (p .labels) + i) bytes =
+              g .here ∙ ap (λ (j : ℕ). recordsFrom j bytes) (g .counted ∙ ap (λ (j : ℕ). firstEntry bytes + length (p .labels) + j) (sym q)) in
               record {
                 is =
                     ap (getElem? (p .keys ++ (x ∷ []))) q ∙ (at-seam (p .keys) x [] ∙ ap (λ (r : List ℕ). some (keyIn (recordBody r))) there);
@@ -158,7 +158,7 @@ keys-stand-more bytes n p l g h e =
 pub key-place : (bytes : List ℕ) (i : ℕ) → i < length (keysIn bytes) → KeyPlace (labelsIn bytes) bytes (keysIn bytes) i
 unfolding labelsIn keysIn profileIn profileWalked
 key-place bytes i h =
-    walk-keeps profileTests profileNext (KeysStand bytes) profile-long (keys-stand-more bytes) 0 noProfile bytes
-    (record { counted = refl; here = unfold recordsFrom in refl; each = λ i h. absurd (omega arith) })
+    walk-keeps profileTests profileNext (KeysStand bytes) profile-long (keys-stand-more bytes) (firstEntry bytes) noProfile (behindEdition bytes)
+    (record { counted = omega arith; here = behind-here bytes; each = λ i h. absurd (omega arith) })
     .held
     .each i h

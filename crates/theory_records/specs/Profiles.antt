@@ -1,30 +1,38 @@
 -- An accepted profile: its labels and keys are good, and its bytes are the encodings of its labels and then of its keys.
 use Prim.Native.Nat.{ℕ, zero, suc, _+_, _≤_, _<_}
-use mathlib.Core.Path.{_≡_, refl, sym, subst, ap, _∙_}
+use mathlib.Core.Path.{_≡_, refl, sym, subst, ap, ap₂, _∙_}
 use mathlib.Core.Logic.{_⊎_, inl, inr, ⊎-elim}
 use mathlib.Core.Bool.{Bool, true, false, cond, not}
 use mathlib.Core.List.{List, [], _∷_, _++_, map, flatten, append-assoc, append-nil}
 use native.Mathlib.Omega.{arith}
 use borrow.Author.Tests.{leb-true, leb-false, ltb-false, eqb-true, eqb-false, eq-eqb}
 use lib.Dec.{leb, ltb, eqb}
-use lib.ListN.{length, drop, length-append}
+use lib.ListN.{length, getD, drop, length-append}
 use Rattle.meaning.specs.Limits.{inProfile}
 use Rattle.meaning.specs.Lists.{Each, end, also}
 use Rattle.meaning.specs.Paths.{Label}
 use Rattle.meaning.specs.Keys.{Key}
-use Rattle.meaning.specs.Records.{recordLength, recordKind, recordBody, readLabel, labelBytes, keyIn, keyBytes}
-use Rattle.meaning.specs.Refusals.{Refusal, firstRefusal, firstOf, Walked, walk, goodLabel, Profile, noProfile, profileTests, profileNext, profileWalked, profileIn, profileRefusal, oversize}
+use Rattle.meaning.specs.Records.{recordLength, recordKind, recordBody, recordBytes, readLabel, labelBytes, keyIn, keyBytes}
+use Rattle.meaning.specs.Refusals.{Refusal, firstRefusal, firstOf, Walked, walk, goodLabel, Profile, noProfile, profileTests, profileNext, hasEdition, behindEdition, firstEntry, editionRefusal, profileWalked, profileIn, profileRefusal, oversize, whole, sound}
 use Rattle.meaning.specs.Operations.{labelsIn, keysIn}
 use Rattle.theory_paths.specs.Bools.{of-true}
 use Rattle.theory_paths.specs.Good.{GoodLabels, good-labels-none, good-labels-more, GoodKey}
 use Rattle.theory_records.specs.Walks.{Stopped, walk-keeps}
 use Rattle.theory_records.specs.Bytes.{Bytes, bytes-drop}
-use Rattle.theory_records.specs.Encodings.{label-written, key-record-written}
+use Rattle.theory_records.specs.Tests.{both}
+use Rattle.theory_records.specs.Heads.{whole-says}
+use Rattle.theory_records.specs.Encodings.{label-written, key-record-written, record-is, ends-edition}
 use Rattle.theory_records.specs.Judged.{LabelAccepted, KeyRecordAccepted, profile-accepted}
 
--- the bytes of a profile: "A profile is labels, numbers ascending, then keys."
-unfoldable pub profileBytes : Profile → List ℕ
-profileBytes p = flatten (map labelBytes (p .labels)) ++ flatten (map keyBytes (p .keys))
+-- the bytes of a profile: "A profile is labels, numbers ascending, then keys", behind the edition's record
+unfoldable pub entryBytes : Profile → List ℕ
+entryBytes p = flatten (map labelBytes (p .labels)) ++ flatten (map keyBytes (p .keys))
+
+unfoldable pub editionBytes : Bool → List ℕ
+editionBytes second = cond second (recordBytes 6 (2 ∷ [])) []
+
+unfoldable pub profileBytes : Bool → Profile → List ℕ
+profileBytes second p = editionBytes second ++ entryBytes p
 
 -- labels read one after the other, each of them good beside those before it
 pub data LabelsRead : List Label → Type 0 where
@@ -67,15 +75,15 @@ unfolding profileNext
 next-key p l k = rw k
 
 -- What holds of the labels and keys read so far
-pub record ProfileGood (n : ℕ) (p : Profile) : Type 0 where
+pub record ProfileGood (first n : ℕ) (p : Profile) : Type 0 where
   pub labels : LabelsRead (p .labels)
   pub keys : Each (GoodKey (p .labels) inProfile) (p .keys)
   pub few : length (p .keys) ≤ 64
-  pub counted : n ≡ length (p .labels) + length (p .keys)
+  pub counted : n ≡ first + (length (p .labels) + length (p .keys))
 
-good-kept : (n : ℕ) (p : Profile) (l : List ℕ) → ProfileGood n p → 0 < length l → firstOf (profileTests p l) ≡ 0
-    → ProfileGood (suc n) (profileNext p l)
-good-kept n p l g h e =
+good-kept : (first n : ℕ) (p : Profile) (l : List ℕ) → ProfileGood first n p → 0 < length l → firstOf (profileTests p l) ≡ 0
+    → ProfileGood first (suc n) (profileNext p l)
+good-kept first n p l g h e =
     ⊎-elim
     (λ (a : LabelAccepted p l).
     rw (next-label p l (a .kind))
@@ -100,17 +108,18 @@ profile-long p l h e =
     ⊎-elim (λ (a : LabelAccepted p l). omega (arith, a .isWhole .long)) (λ (a : KeyRecordAccepted p l). omega (arith, a .isWhole .long))
     (profile-accepted p l e)
 
-pub good-at-stop : (bytes : List ℕ) → ProfileGood (profileWalked bytes .at) (profileWalked bytes .state)
+pub good-at-stop : (bytes : List ℕ) → ProfileGood (firstEntry bytes) (profileWalked bytes .at) (profileWalked bytes .state)
 unfolding profileWalked
 good-at-stop bytes =
-    walk-keeps profileTests profileNext (λ n p rest. ProfileGood n p) profile-long good-kept 0 noProfile bytes
-    (record { labels = noLabel refl; keys = end; few = omega arith; counted = refl })
+    walk-keeps profileTests profileNext (λ n p rest. ProfileGood (firstEntry bytes) n p) profile-long (good-kept (firstEntry bytes)) (firstEntry bytes)
+    noProfile (behindEdition bytes)
+    (record { labels = noLabel refl; keys = end; few = omega arith; counted = omega arith })
     .held
 
 -- What is written so far and what is left are the bytes
 pub record ProfileWritten (bytes : List ℕ) (n : ℕ) (p : Profile) (rest : List ℕ) : Type 0 where
   pub small : Bytes rest
-  pub are : profileBytes p ++ rest ≡ bytes
+  pub are : entryBytes p ++ rest ≡ bytes
 
 one-label : (A x K r l bytes : List ℕ) → K ≡ [] → x ++ r ≡ l → (A ++ K) ++ l ≡ bytes → ((A ++ x) ++ K) ++ r ≡ bytes
 one-label A x K r l bytes k e w = sym (sym w ∙ (rw (k, append-nil A, append-nil (A ++ x), ← e) (sym (append-assoc A x r))))
@@ -120,7 +129,7 @@ one-key A x K r l bytes e w = sym (sym w ∙ (rw (← e) (simp append-assoc)))
 
 written-kept : (bytes : List ℕ) (n : ℕ) (p : Profile) (l : List ℕ) → ProfileWritten bytes n p l → 0 < length l → firstOf (profileTests p l) ≡ 0
     → ProfileWritten bytes (suc n) (profileNext p l) (drop (recordLength l) l)
-unfolding profileBytes flatten
+unfolding entryBytes flatten
 written-kept bytes n p l g h e =
     let A : List ℕ = flatten (map labelBytes (p .labels)) in
     let K : List ℕ = flatten (map keyBytes (p .keys)) in
@@ -165,39 +174,87 @@ within-size input limit bytes e = go (ltb limit (length bytes)) refl
     go true q = absurd (omega (arith, rw q at e))
     go false q = ltb-false _ _ q
 
+edition-two : (bytes : List ℕ) → editionRefusal bytes .number ≡ 0 → hasEdition bytes ≡ true → getD (recordBody bytes) 0 0 ≡ 2
+unfolding editionRefusal
+edition-two bytes e h = go (eqb (getD (recordBody bytes) 0 0) 2) refl (rw h at e)
+  where
+    go : (b : Bool) → eqb (getD (recordBody bytes) 0 0) 2 ≡ b → cond (not b) (record { number = 3; input = 1; place = 0 }) sound .number ≡ 0
+        → getD (recordBody bytes) 0 0 ≡ 2
+    go true q r = eqb-true _ _ q
+    go false q r = absurd (omega arith)
+
 -- What acceptance of a profile says
 pub record ProfileAccepted (bytes : List ℕ) : Type 0 where
   pub size : length bytes ≤ 16384
   pub walked : profileWalked bytes .number ≡ 0
-  pub good : ProfileGood (profileWalked bytes .at) (profileIn bytes)
+  pub edition : hasEdition bytes ≡ true → getD (recordBody bytes) 0 0 ≡ 2
+  pub good : ProfileGood (firstEntry bytes) (profileWalked bytes .at) (profileIn bytes)
 
 pub profile-accepts : (bytes : List ℕ) → profileRefusal bytes .number ≡ 0 → ProfileAccepted bytes
 unfolding profileRefusal profileIn
 profile-accepts bytes e =
     let size = refusal-none _ _ e in
-    let walked = refusal-none _ _ (size .1) in
-    record { size = within-size 1 16384 bytes (size .0); walked = walked .0; good = good-at-stop bytes }
+    let edition = refusal-none _ _ (size .1) in
+    let walked = refusal-none _ _ (edition .1) in
+    record {
+      size = within-size 1 16384 bytes (size .0);
+      walked = walked .0;
+      edition = edition-two bytes (edition .0);
+      good = good-at-stop bytes;
+    }
+
+behind-small : (bytes : List ℕ) → Bytes bytes → Bytes (behindEdition bytes)
+unfolding behindEdition
+behind-small bytes small = go (hasEdition bytes)
+  where
+    go : (b : Bool) → Bytes (cond b (drop (recordLength bytes) bytes) bytes)
+    go true = bytes-drop (recordLength bytes) small
+    go false = small
+
+-- labels and keys, written back
+entries-written : (bytes : List ℕ) → Bytes bytes → profileWalked bytes .number ≡ 0 → entryBytes (profileIn bytes) ≡ behindEdition bytes
+unfolding profileIn profileWalked
+entries-written bytes small e =
+    let w =
+    walk-keeps profileTests profileNext (ProfileWritten (behindEdition bytes)) profile-long (written-kept (behindEdition bytes)) (firstEntry bytes)
+    noProfile (behindEdition bytes) (record { small = behind-small bytes small; are = unfold entryBytes flatten in refl }) in
+    sym (append-nil _) ∙ subst (λ (rest : List ℕ). entryBytes (profileIn bytes) ++ rest ≡ behindEdition bytes) (w .sound e) (w .held .are)
+
+-- the edition's record, written back
+edition-written : (bytes : List ℕ) → Bytes bytes → ProfileAccepted bytes → editionBytes (hasEdition bytes) ++ behindEdition bytes ≡ bytes
+unfolding editionBytes behindEdition
+edition-written bytes small a = go (hasEdition bytes) refl
+  where
+    one-byte : (l : List ℕ) → length l ≡ 1 → getD l 0 0 ≡ 2 → 2 ∷ [] ≡ l
+    one-byte [] n q = absurd (omega arith)
+    one-byte (b ∷ []) n q = ap (λ (k : ℕ). k ∷ []) (sym q)
+    one-byte (b ∷ c ∷ l) n q = absurd (omega arith)
+
+    go : (b : Bool) → hasEdition bytes ≡ b → cond b (recordBytes 6 (2 ∷ [])) [] ++ cond b (drop (recordLength bytes) bytes) bytes ≡ bytes
+    go false e = refl
+    go true e =
+        let p = both (whole bytes) (eqb (recordKind bytes) 6) (unfold hasEdition in e) in
+        let w = whole-says bytes (p .0) in
+        let k : recordKind bytes ≡ 6 = eqb-true _ _ (p .1) in
+        record-is bytes small w 6 k (2 ∷ []) (one-byte (recordBody bytes) (ends-edition bytes w k) (a .edition e))
 
 -- "profiles read and written back are the same bytes"
-pub profile-written : (bytes : List ℕ) → Bytes bytes → profileWalked bytes .number ≡ 0 → profileBytes (profileIn bytes) ≡ bytes
-unfolding profileIn profileWalked
-profile-written bytes small e =
-    let w =
-    walk-keeps profileTests profileNext (ProfileWritten bytes) profile-long (written-kept bytes) 0 noProfile bytes
-    (record { small = small; are = unfold profileBytes flatten in refl }) in
-    sym (append-nil _) ∙ subst (λ (rest : List ℕ). profileBytes (profileIn bytes) ++ rest ≡ bytes) (w .sound e) (w .held .are)
+pub profile-written : (bytes : List ℕ) → Bytes bytes → ProfileAccepted bytes → profileBytes (hasEdition bytes) (profileIn bytes) ≡ bytes
+unfolding profileBytes
+profile-written bytes small a =
+    ap (λ (l : List ℕ). editionBytes (hasEdition bytes) ++ l) (entries-written bytes small (a .walked)) ∙ edition-written bytes small a
 
--- one encoding for each profile
+-- one encoding for each profile of an edition
 pub profile-unique : (bytes other : List ℕ) → Bytes bytes → Bytes other → profileRefusal bytes .number ≡ 0 → profileRefusal other .number ≡ 0
-    → profileIn bytes ≡ profileIn other → bytes ≡ other
-profile-unique bytes other small small′ e e′ same =
-    sym (profile-written bytes small (profile-accepts bytes e .walked))
-    ∙ (ap profileBytes same ∙ profile-written other small′ (profile-accepts other e′ .walked))
+    → hasEdition bytes ≡ hasEdition other → profileIn bytes ≡ profileIn other → bytes ≡ other
+profile-unique bytes other small small′ e e′ edition same =
+    sym (profile-written bytes small (profile-accepts bytes e))
+    ∙ (ap₂ profileBytes edition same ∙ profile-written other small′ (profile-accepts other e′))
 
 -- reading what is written gives the same profile
 pub profile-read-back : (bytes : List ℕ) → Bytes bytes → profileRefusal bytes .number ≡ 0
-    → profileIn (profileBytes (profileIn bytes)) ≡ profileIn bytes
-profile-read-back bytes small e = ap profileIn (profile-written bytes small (profile-accepts bytes e .walked))
+    → profileIn (profileBytes (hasEdition bytes) (profileIn bytes)) ≡ profileIn bytes
+profile-read-back bytes small e = ap profileIn (profile-written bytes small (profile-accepts bytes e))
 
 -- the same by the names that the operations use
 pub accepted-labels : (bytes : List ℕ) → profileRefusal bytes .number ≡ 0 → GoodLabels (labelsIn bytes)

@@ -7,15 +7,17 @@ use mathlib.Core.List.{List, [], _∷_, _++_, map, flatten, append-assoc, append
 use native.Mathlib.Omega.{arith}
 use native.Mathlib.Nat.{eq-or-lt-of-le}
 use borrow.Author.Tests.{leb-true, ltb-true, eqb-true, eqb-false, not-false}
-use lib.Dec.{leb, ltb, eqb}
+use native.Mathlib.Decide.{decLt}
+use lib.Dec.{T, leb, ltb, eqb}
 use lib.ListN.{length, getD, drop, take, length-append, length-drop, List·getD-append}
 use lib.Seq.{getD-drop, getD-take, drop-drop, getD-append-seam}
-use Rattle.meaning.specs.Lists.{Each, end, also, isEmpty}
-use Rattle.meaning.specs.Paths.{Class, Label, element, attribute, text, isElement, classOf, isLabel, declared}
-use Rattle.meaning.specs.Trees.{Table, Node, noNode, tableOf, Placed, IsTree}
+use Rattle.meaning.specs.Lists.{Each, end, also, isEmpty, any}
+use Rattle.meaning.specs.Paths.{Class, Label, element, attribute, text, isElement, classOf, singles, isLabel, declared}
+use Rattle.meaning.specs.Trees.{Table, Node, noNode, tableOf, Placed, IsTree, Child, Once}
 use Rattle.meaning.specs.Records.{word, number, valueBytes, recordLength, recordKind, recordBody, readNode, nodeBytes}
-use Rattle.meaning.specs.Refusals.{Refusal, sound, firstOf, walk, goodRoot, goodBelow, nodeKindIn, treeTests, treeWalked, nodesIn, treeRefusal}
-use Rattle.theory_paths.specs.Bools.{of-true}
+use Rattle.meaning.specs.Refusals.{Refusal, sound, firstOf, walk, goodRoot, goodBelow, repeated, nodeKindIn, treeTests, treeWalked, nodesIn, treeRefusal}
+use Rattle.theory_paths.specs.Bools
+use Rattle.theory_paths.specs.Bools.{of-true, true-of, eqb-of, or-left, or-right}
 use Rattle.theory_paths.specs.Good.{GoodLabels, declared-between}
 use Rattle.theory_records.specs.Tests.{both, either, never}
 use Rattle.theory_records.specs.Walks.{Stopped, walk-keeps}
@@ -133,14 +135,69 @@ good-more labels (y ∷ nodes) x g e =
           (eq-or-lt-of-le small);
     }
 
+-- "each attribute name at most once under an element"
+pub record NodesOnce (single : ℕ → Bool) (nodes : List Node) : Type 0 where
+  pub one : (i j : ℕ) → i < j → j < length nodes → T (single (getD nodes j noNode .label))
+      → getD nodes i noNode .parent ≡ getD nodes j noNode .parent → getD nodes i noNode .label ≡ getD nodes j noNode .label → ⊥
+
+any-at : {A : Type 0} (f : A → Bool) (d : A) (xs : List A) (i : ℕ) → i < length xs → T (f (getD xs i d)) → T (any f xs)
+unfolding any
+any-at f d [] i h t = absurd (omega arith)
+any-at f d (x ∷ xs) zero h t = or-left (f x) (any f xs) t
+any-at f d (x ∷ xs) (suc i) h t = or-right (f x) (any f xs) (any-at f d xs i (omega arith) t)
+
+once-more : (single : ℕ → Bool) (nodes : List Node) (x : Node) → NodesOnce single nodes → repeated single nodes x ≡ false
+    → NodesOnce single (nodes ++ (x ∷ []))
+unfolding repeated
+once-more single nodes x o e =
+    record {
+      one = λ i j h k t p q.
+          ⊎-elim
+          (λ (r : j ≡ length nodes). last i (omega arith) (at-old i (omega arith)) (at-new j r) t p q)
+          (λ (r : j < length nodes). older i j h r (at-old i (omega arith)) (at-old j r) t p q)
+          (eq-or-lt-of-le (at-most j _ _ (length-more nodes x) k));
+    }
+  where
+    at-most : (i m k : ℕ) → m ≡ suc k → i < m → i ≤ k
+    at-most i m k e h = omega arith
+
+    at-old : (i : ℕ) → i < length nodes → getD (nodes ++ (x ∷ [])) i noNode ≡ getD nodes i noNode
+    at-old i h = List·getD-append nodes (x ∷ []) noNode i h
+
+    at-new : (j : ℕ) → j ≡ length nodes → getD (nodes ++ (x ∷ [])) j noNode ≡ x
+    at-new j r = ap (λ (k : ℕ). getD (nodes ++ (x ∷ [])) k noNode) r ∙ getD-append-seam nodes x [] noNode
+
+    last : (i : ℕ) → i < length nodes → {a b : Node} → a ≡ getD nodes i noNode → b ≡ x → T (single (b .label)) → a .parent ≡ b .parent
+        → a .label ≡ b .label → ⊥
+    last i h {a} {b} ea eb t p q =
+        never (single (x .label) && any test nodes)
+        (true-of (single (x .label) && any test nodes)
+        (Bools.both (single (x .label)) (any test nodes) (subst (λ (n : Node). T (single (n .label))) eb t)
+        (any-at test noNode nodes i h
+        (Bools.both (eqb (getD nodes i noNode .parent) (x .parent)) (eqb (getD nodes i noNode .label) (x .label))
+        (eqb-of _ _ (sym (ap (λ (n : Node). n .parent) ea) ∙ p ∙ ap (λ (n : Node). n .parent) eb))
+        (eqb-of _ _ (sym (ap (λ (n : Node). n .label) ea) ∙ q ∙ ap (λ (n : Node). n .label) eb))))))
+        e
+      where
+        test : Node → Bool
+        test m = eqb (m .parent) (x .parent) && eqb (m .label) (x .label)
+
+    older : (i j : ℕ) → i < j → j < length nodes → {a b : Node} → a ≡ getD nodes i noNode → b ≡ getD nodes j noNode → T (single (b .label))
+        → a .parent ≡ b .parent → a .label ≡ b .label → ⊥
+    older i j h r ea eb t p q =
+        o .one i j h r (subst (λ (n : Node). T (single (n .label))) eb t)
+        (sym (ap (λ (n : Node). n .parent) ea) ∙ p ∙ ap (λ (n : Node). n .parent) eb)
+        (sym (ap (λ (n : Node). n .label) ea) ∙ q ∙ ap (λ (n : Node). n .label) eb)
+
 -- What holds of the nodes read so far
-pub record TreeAt (kind : ℕ) (labels : List Label) (bytes : List ℕ) (n : ℕ) (nodes : List Node) (rest : List ℕ) : Type 0 where
+pub record TreeAt (second : Bool) (kind : ℕ) (labels : List Label) (bytes : List ℕ) (n : ℕ) (nodes : List Node) (rest : List ℕ) : Type 0 where
   pub counted : n ≡ length nodes
   pub left : rest ≡ drop (stride kind * length nodes) bytes
   pub within : stride kind * length nodes ≤ length bytes
   pub few : length nodes ≤ 4096
   pub are : (i : ℕ) → i < length nodes → getD nodes i noNode ≡ nodeAt (stride kind) bytes i
   pub good : NodesGood labels nodes
+  pub once : NodesOnce (singles second (classOf labels)) nodes
 
 stride-more : (w k m : ℕ) → m ≡ suc k → w * k + w ≡ w * m
 stride-more w k m e = ap (λ (n : ℕ). w * k + n) (omega arith) ∙ (let q : w * k + w ≡ w * suc k = omega arith in q) ∙ ap (λ (n : ℕ). w * n) (sym e)
@@ -152,12 +209,12 @@ stride-least kind = omega arith
 at-most : (i m k : ℕ) → m ≡ suc k → i < m → i ≤ k
 at-most i m k e h = omega arith
 
-pub tree-kept : {kind : ℕ} → IsNodeKind kind → (labels : List Label) (bytes : List ℕ) (n : ℕ) (nodes : List Node) (l : List ℕ)
-    → TreeAt kind labels bytes n nodes l → 0 < length l → firstOf (treeTests kind labels nodes l) ≡ 0
-    → TreeAt kind labels bytes (suc n) (nodes ++ (readNode (recordBody l) ∷ [])) (drop (recordLength l) l)
-tree-kept {kind} isNode labels bytes n nodes l g h e =
+pub tree-kept : (second : Bool) {kind : ℕ} → IsNodeKind kind → (labels : List Label) (bytes : List ℕ) (n : ℕ) (nodes : List Node) (l : List ℕ)
+    → TreeAt second kind labels bytes n nodes l → 0 < length l → firstOf (treeTests second kind labels nodes l) ≡ 0
+    → TreeAt second kind labels bytes (suc n) (nodes ++ (readNode (recordBody l) ∷ [])) (drop (recordLength l) l)
+tree-kept second {kind} isNode labels bytes n nodes l g h e =
     let w : ℕ = stride kind in
-    let a = node-accepted kind labels nodes l e in
+    let a = node-accepted second kind labels nodes l e in
     let long : recordLength l ≡ w = node-length isNode l (a .isWhole) (a .isKind) in
     let x : Node = readNode (recordBody l) in
     let more : length (nodes ++ (x ∷ [])) ≡ suc (length nodes) = length-more nodes x in
@@ -181,17 +238,18 @@ tree-kept {kind} isNode labels bytes n nodes l g h e =
           (λ (q : i < length nodes). List·getD-append nodes (x ∷ []) noNode i q ∙ g .are i q)
           (eq-or-lt-of-le (at-most i _ _ more k));
       good = good-more labels nodes x (g .good) (a .good);
+      once = once-more (singles second (classOf labels)) nodes x (g .once) (a .once);
     }
 
-pub tree-long : (kind : ℕ) (labels : List Label) (nodes : List Node) (l : List ℕ) → 0 < length l → firstOf (treeTests kind labels nodes l) ≡ 0
+pub tree-long : (second : Bool) (kind : ℕ) (labels : List Label) (nodes : List Node) (l : List ℕ) → 0 < length l → firstOf (treeTests second kind labels nodes l) ≡ 0
     → 1 ≤ recordLength l
-tree-long kind labels nodes l h e = omega (arith, node-accepted kind labels nodes l e .isWhole .long)
+tree-long second kind labels nodes l h e = omega (arith, node-accepted second kind labels nodes l e .isWhole .long)
 
 nothing : (w : ℕ) → w * 0 ≡ 0
 nothing w = omega arith
 
-pub tree-none : (kind : ℕ) (labels : List Label) (bytes : List ℕ) → TreeAt kind labels bytes 0 [] bytes
-tree-none kind labels bytes =
+pub tree-none : (second : Bool) (kind : ℕ) (labels : List Label) (bytes : List ℕ) → TreeAt second kind labels bytes 0 [] bytes
+tree-none second kind labels bytes =
     record {
       counted = refl;
       left = ap (λ (k : ℕ). drop k bytes) (sym (nothing (stride kind)));
@@ -199,6 +257,7 @@ tree-none kind labels bytes =
       few = omega arith;
       are = λ i h. absurd (omega arith);
       good = record { root = λ h. absurd (omega arith); below = λ i h k. absurd (omega arith) };
+      once = record { one = λ i j h k. absurd (omega arith) };
     }
 
 -- the kind of a file's nodes is one
@@ -210,34 +269,35 @@ kind-in bytes = go (leb 4 (length bytes) && eqb (recordKind bytes) 5)
     go true = inr refl
     go false = inl refl
 
-pub tree-stop : (labels : List Label) (bytes : List ℕ)
-    → Stopped (treeTests (nodeKindIn bytes) labels) (TreeAt (nodeKindIn bytes) labels bytes) (treeWalked labels bytes)
+pub tree-stop : (second : Bool) (labels : List Label) (bytes : List ℕ)
+    → Stopped (treeTests second (nodeKindIn bytes) labels) (TreeAt second (nodeKindIn bytes) labels bytes) (treeWalked second labels bytes)
 unfolding treeWalked
-tree-stop labels bytes =
-    walk-keeps (treeTests (nodeKindIn bytes) labels) _ (TreeAt (nodeKindIn bytes) labels bytes) (tree-long (nodeKindIn bytes) labels)
-    (tree-kept (kind-in bytes) labels bytes) 0 [] bytes (tree-none (nodeKindIn bytes) labels bytes)
+tree-stop second labels bytes =
+    walk-keeps (treeTests second (nodeKindIn bytes) labels) _ (TreeAt second (nodeKindIn bytes) labels bytes) (tree-long second (nodeKindIn bytes) labels)
+    (tree-kept second (kind-in bytes) labels bytes) 0 [] bytes (tree-none second (nodeKindIn bytes) labels bytes)
 
 -- What acceptance of a tree says
-pub record TreeAccepted (labels : List Label) (bytes : List ℕ) : Type 0 where
-  pub size : length bytes ≡ stride (nodeKindIn bytes) * length (nodesIn labels bytes)
-  pub some : 0 < length (nodesIn labels bytes)
-  pub few : length (nodesIn labels bytes) ≤ 4096
-  pub are : (i : ℕ) → i < length (nodesIn labels bytes) → getD (nodesIn labels bytes) i noNode ≡ nodeAt (stride (nodeKindIn bytes)) bytes i
-  pub good : NodesGood labels (nodesIn labels bytes)
+pub record TreeAccepted (second : Bool) (labels : List Label) (bytes : List ℕ) : Type 0 where
+  pub size : length bytes ≡ stride (nodeKindIn bytes) * length (nodesIn second labels bytes)
+  pub some : 0 < length (nodesIn second labels bytes)
+  pub few : length (nodesIn second labels bytes) ≤ 4096
+  pub are : (i : ℕ) → i < length (nodesIn second labels bytes) → getD (nodesIn second labels bytes) i noNode ≡ nodeAt (stride (nodeKindIn bytes)) bytes i
+  pub good : NodesGood labels (nodesIn second labels bytes)
+  pub once : NodesOnce (singles second (classOf labels)) (nodesIn second labels bytes)
 
-pub tree-accepts : (labels : List Label) (bytes : List ℕ) → treeRefusal labels bytes .number ≡ 0 → TreeAccepted labels bytes
+pub tree-accepts : (second : Bool) (labels : List Label) (bytes : List ℕ) → treeRefusal second labels bytes .number ≡ 0 → TreeAccepted second labels bytes
 unfolding treeRefusal nodesIn isEmpty
-tree-accepts labels bytes e =
+tree-accepts second labels bytes e =
     let one = refusal-none _ _ e in
     let two = refusal-none _ _ (one .1) in
     let three = refusal-none _ _ (two .1) in
-    let w = tree-stop labels bytes in
-    let m : ℕ = stride (nodeKindIn bytes) * length (nodesIn labels bytes) in
+    let w = tree-stop second labels bytes in
+    let m : ℕ = stride (nodeKindIn bytes) * length (nodesIn second labels bytes) in
     let all : [] ≡ drop m bytes = sym (w .sound (two .0)) ∙ w .held .left in
     let none : 0 ≡ length bytes - m = ap length all ∙ length-drop m bytes in
     let size : length bytes ≡ m = omega (arith, w .held .within) in
     let any : 0 < length bytes = not-empty bytes (three .0) in
-    record { size = size; some = some-of (stride (nodeKindIn bytes)) (length (nodesIn labels bytes)) (omega arith); few = w .held .few; are = w .held .are; good = w .held .good }
+    record { size = size; some = some-of (stride (nodeKindIn bytes)) (length (nodesIn second labels bytes)) (omega arith); few = w .held .few; are = w .held .are; good = w .held .good; once = w .held .once }
   where
     not-empty : (l : List ℕ) → cond (isEmpty l) (record { number = 8; input = 3; place = 0 }) sound .number ≡ 0 → 0 < length l
     not-empty [] h = absurd (omega arith)
@@ -289,22 +349,39 @@ nodes-tree labels between nodes h g =
           record { above = b .above; inside = is-element _ (b .inside); notRoot = label-not-root labels between _ (b .known) };
     }
 
-pub tree-is-tree : (labels : List Label) → GoodLabels labels → (bytes : List ℕ) → treeRefusal labels bytes .number ≡ 0
-    → IsTree (classOf labels) (tableOf (nodesIn labels bytes))
-tree-is-tree labels between bytes e =
-    let a = tree-accepts labels bytes e in
-    nodes-tree labels between (nodesIn labels bytes) (a .some) (a .good)
+pub tree-is-tree : (second : Bool) (labels : List Label) → GoodLabels labels → (bytes : List ℕ) → treeRefusal second labels bytes .number ≡ 0
+    → IsTree (classOf labels) (tableOf (nodesIn second labels bytes))
+tree-is-tree second labels between bytes e =
+    let a = tree-accepts second labels bytes e in
+    nodes-tree labels between (nodesIn second labels bytes) (a .some) (a .good)
+
+-- and one of its edition
+pub nodes-once : (single : ℕ → Bool) (nodes : List Node) → NodesOnce single nodes → Once single (tableOf nodes)
+unfolding tableOf
+nodes-once single nodes o =
+    record { one = λ v x y a b t l. go x y a b t l (decLt x y) (decLt y x) }
+  where
+    go : (x y : ℕ) → {v : ℕ} → Child (tableOf nodes) v x → Child (tableOf nodes) v y → T (single (getD nodes x noNode .label))
+        → getD nodes x noNode .label ≡ getD nodes y noNode .label → Dec (x < y) → Dec (y < x) → x ≡ y
+    go x y a b t l (yes h) d =
+        absurd (o .one x y h (b .inside) (subst (λ (k : ℕ). T (single k)) l t) (a .below ∙ sym (b .below)) l)
+    go x y a b t l (no n) (yes h) = absurd (o .one y x h (a .inside) t (b .below ∙ sym (a .below)) (sym l))
+    go x y a b t l (no n) (no m) = omega arith
+
+pub tree-once : (second : Bool) (labels : List Label) (bytes : List ℕ) → treeRefusal second labels bytes .number ≡ 0
+    → Once (singles second (classOf labels)) (tableOf (nodesIn second labels bytes))
+tree-once second labels bytes e = nodes-once _ _ (tree-accepts second labels bytes e .once)
 
 -- the bytes of a tree are the encodings of its nodes
 pub record TreeWritten (kind : ℕ) (bytes : List ℕ) (n : ℕ) (nodes : List Node) (rest : List ℕ) : Type 0 where
   pub small : Bytes rest
   pub are : flatten (map (nodeBytes kind) nodes) ++ rest ≡ bytes
 
-tree-written-kept : {kind : ℕ} → IsNodeKind kind → (labels : List Label) (bytes : List ℕ) (n : ℕ) (nodes : List Node) (l : List ℕ)
-    → TreeWritten kind bytes n nodes l → 0 < length l → firstOf (treeTests kind labels nodes l) ≡ 0
+tree-written-kept : (second : Bool) {kind : ℕ} → IsNodeKind kind → (labels : List Label) (bytes : List ℕ) (n : ℕ) (nodes : List Node) (l : List ℕ)
+    → TreeWritten kind bytes n nodes l → 0 < length l → firstOf (treeTests second kind labels nodes l) ≡ 0
     → TreeWritten kind bytes (suc n) (nodes ++ (readNode (recordBody l) ∷ [])) (drop (recordLength l) l)
-tree-written-kept {kind} isNode labels bytes n nodes l g h e =
-    let a = node-accepted kind labels nodes l e in
+tree-written-kept second {kind} isNode labels bytes n nodes l g h e =
+    let a = node-accepted second kind labels nodes l e in
     record {
       small = bytes-drop (recordLength l) (g .small);
       are =
@@ -312,20 +389,20 @@ tree-written-kept {kind} isNode labels bytes n nodes l g h e =
           (node-written isNode l (g .small) (a .isWhole) (a .isKind)) (g .are);
     }
 
-pub tree-written : (labels : List Label) (bytes : List ℕ) → Bytes bytes → treeRefusal labels bytes .number ≡ 0
-    → flatten (map (nodeBytes (nodeKindIn bytes)) (nodesIn labels bytes)) ≡ bytes
+pub tree-written : (second : Bool) (labels : List Label) (bytes : List ℕ) → Bytes bytes → treeRefusal second labels bytes .number ≡ 0
+    → flatten (map (nodeBytes (nodeKindIn bytes)) (nodesIn second labels bytes)) ≡ bytes
 unfolding treeRefusal nodesIn treeWalked
-tree-written labels bytes small e =
+tree-written second labels bytes small e =
     let one = refusal-none _ _ e in
     let two = refusal-none _ _ (one .1) in
     let w =
-    walk-keeps (treeTests (nodeKindIn bytes) labels) (λ (nodes : List Node) (l : List ℕ). nodes ++ (readNode (recordBody l) ∷ []))
+    walk-keeps (treeTests second (nodeKindIn bytes) labels) (λ (nodes : List Node) (l : List ℕ). nodes ++ (readNode (recordBody l) ∷ []))
     (TreeWritten (nodeKindIn bytes) bytes)
-    (tree-long (nodeKindIn bytes) labels)
-    (tree-written-kept (kind-in bytes) labels bytes)
+    (tree-long second (nodeKindIn bytes) labels)
+    (tree-written-kept second (kind-in bytes) labels bytes)
     0
     []
     bytes
     (record { small = small; are = unfold flatten in refl }) in
-    sym (append-nil (flatten (map (nodeBytes (nodeKindIn bytes)) (nodesIn labels bytes))))
-    ∙ subst (λ (rest : List ℕ). flatten (map (nodeBytes (nodeKindIn bytes)) (nodesIn labels bytes)) ++ rest ≡ bytes) (w .sound (two .0)) (w .held .are)
+    sym (append-nil (flatten (map (nodeBytes (nodeKindIn bytes)) (nodesIn second labels bytes))))
+    ∙ subst (λ (rest : List ℕ). flatten (map (nodeBytes (nodeKindIn bytes)) (nodesIn second labels bytes)) ++ rest ≡ bytes) (w .sound (two .0)) (w .held .are)

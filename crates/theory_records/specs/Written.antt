@@ -11,12 +11,12 @@ use lib.ListN.{length, drop, length-append}
 use lib.Seq.{append-snoc}
 use Rattle.meaning.specs.Limits.{inProfile, inProof}
 use Rattle.meaning.specs.Lists.{Each, end, also, isEmpty}
-use Rattle.meaning.specs.Paths.{Label}
+use Rattle.meaning.specs.Paths.{Label, classOf, singles}
 use Rattle.meaning.specs.Trees.{Node}
 use Rattle.meaning.specs.Keys.{Key}
 use Rattle.meaning.specs.Rules.{Line}
 use Rattle.meaning.specs.Records.{wordBytes, recordLength, recordKind, recordBody, recordBytes, readNode, nodeBytes, valueBytes, numberBytes, keyIn, readKey, keyBody, keyBytes, isSome, readLine, lineBytes}
-use Rattle.meaning.specs.Refusals.{Refusal, Walked, firstOf, walk, whole, tooMany, keyTests, goodRoot, goodBelow, treeTests, treeWalked, nodesIn, treeRefusal, lineTests, proofWalked, questionTests, questionWalked, questionRefusal, questionIn}
+use Rattle.meaning.specs.Refusals.{Refusal, Walked, firstOf, walk, whole, tooMany, keyTests, goodRoot, goodBelow, repeated, treeTests, treeWalked, nodesIn, treeRefusal, lineTests, proofWalked, questionTests, questionWalked, questionRefusal, questionIn}
 use Rattle.theory_paths.specs.Good.{GoodKey, tests-of-good}
 use Rattle.theory_records.specs.Walks.{walk-step, walk-end}
 use Rattle.theory_records.specs.Heads.{written-length, written-kind, written-body, written-rest, bytes-length}
@@ -88,19 +88,19 @@ module _ (labels : List Label) where
   abbrev pub nextNode : List Node → List ℕ → List Node
   nextNode nodes l = nodes ++ (readNode (recordBody l) ∷ [])
 
-  pub node-reads : {kind : ℕ} → IsNodeKind kind → (nodes : List Node) (x : Node) → NodeFits kind x → length nodes < 4096
-      → cond (isEmpty nodes) (goodRoot x) (goodBelow labels nodes x) ≡ true
-      → Reads (treeTests kind labels) nextNode atEnd (nodeBytes kind) nodes x
+  pub node-reads : (second : Bool) {kind : ℕ} → IsNodeKind kind → (nodes : List Node) (x : Node) → NodeFits kind x → length nodes < 4096
+      → cond (isEmpty nodes) (goodRoot x) (goodBelow labels nodes x) ≡ true → repeated (singles second (classOf labels)) nodes x ≡ false
+      → Reads (treeTests second kind labels) nextNode atEnd (nodeBytes kind) nodes x
   unfolding nodeBytes
-  node-reads {kind} isNode nodes x fits room good =
+  node-reads second {kind} isNode nodes x fits room good once =
       record {
         some = record-some kind body small;
         accepted =
             λ rest.
-            node-passes kind labels nodes (recordBytes kind body ++ rest) room
+            node-passes second kind labels nodes (recordBytes kind body ++ rest) room
             (written-whole kind body rest small (kind-small isNode) ∙ node-ends isNode body long)
             (written-kind kind body rest (kind-small isNode))
-            (rw (same rest) good);
+            (rw (same rest) good) (rw (same rest) once);
         long = record-long kind body small;
         behind = record-behind kind body small;
         read = λ rest. ap (λ (y : Node). nodes ++ (y ∷ [])) (same rest);

@@ -1,23 +1,24 @@
 -- Whole inputs that are written are accepted and read back: a tree, a question, a proof.
 use Prim.Native.Nat.{ℕ, zero, suc, _+_, _*_, _≤_, _<_}
 use mathlib.Core.Path.{_≡_, refl, sym, subst, ap, ap₂, _∙_}
-use mathlib.Core.Logic.{inl, inr}
+use mathlib.Core.Logic.{inl, inr, ⊎-elim}
+use Rattle.theory_paths.specs.Bools.{false-of, and-left, and-right, or-cases}
 use mathlib.Core.Bool.{Bool, true, false, cond, _&&_, _||_, not}
 use mathlib.Core.List.{List, [], _∷_, _++_, map, flatten, append-assoc, append-nil, List·Memᴰ, List·Memᴰ·head, List·Memᴰ·tail}
 use native.Mathlib.Omega.{arith}
 use native.Mathlib.Nat.{mul-le-mul-left, mul-pos}
 use borrow.Author.Tests.{le-leb, le-ltb, lt-ltb}
-use lib.Dec.{leb, ltb, eqb}
+use lib.Dec.{T, leb, ltb, eqb, eqb→eq}
 use lib.ListN.{length, getD, drop, length-append, List·getD-append}
 use lib.Seq.{append-snoc, getD-append-seam}
 use Rattle.meaning.specs.Limits.{KeyLimits, inProfile, inProof}
-use Rattle.meaning.specs.Lists.{Each, end, also, isEmpty}
-use Rattle.meaning.specs.Paths.{Label, isElement, classOf, isLabel}
+use Rattle.meaning.specs.Lists.{Each, end, also, isEmpty, any}
+use Rattle.meaning.specs.Paths.{Label, isElement, classOf, singles, isLabel}
 use Rattle.meaning.specs.Trees.{Node, noNode}
 use Rattle.meaning.specs.Keys.{Key}
 use Rattle.meaning.specs.Rules.{Line}
 use Rattle.meaning.specs.Records.{wordBytes, recordLength, recordKind, recordBody, recordBytes, bodyEnds, readNode, nodeBytes, valueBytes, numberBytes, keyIn, readKey, pathBytes, keyBody, keyBytes, isSome, readLine, lineBytes}
-use Rattle.meaning.specs.Refusals.{Refusal, sound, firstRefusal, oversize, Walked, firstOf, walk, whole, keyTests, goodRoot, goodBelow, nodeKindIn, treeLimit, treeTests, treeWalked, nodesIn, treeRefusal, lineTests, proofWalked, questionTests, questionWalked, questionRefusal, questionIn}
+use Rattle.meaning.specs.Refusals.{Refusal, sound, firstRefusal, oversize, Walked, firstOf, walk, whole, keyTests, goodRoot, goodBelow, repeated, nodeKindIn, treeLimit, treeTests, treeWalked, nodesIn, treeRefusal, lineTests, proofWalked, questionTests, questionWalked, questionRefusal, questionIn}
 use Rattle.theory_paths.specs.Good.{GoodKey, tests-of-good, context-length, target-length, key-path-length, paths-within}
 use Rattle.theory_records.specs.Tests.{and-true}
 use Rattle.theory_records.specs.Walks.{walk-step, walk-end}
@@ -26,7 +27,7 @@ use Rattle.theory_records.specs.KeyBodies.{key-in-read, key-is-read}
 use Rattle.theory_records.specs.Encodings.{IsNodeKind, kind-small, written-whole, line-read}
 use Rattle.theory_records.specs.Bytes.{number-length}
 use Rattle.theory_records.specs.Judged.{some-empty, line-passes, question-passes}
-use Rattle.theory_records.specs.TreeFiles.{stride, stride-least, NodeBelow, NodesGood}
+use Rattle.theory_records.specs.TreeFiles.{stride, stride-least, NodeBelow, NodesGood, NodesOnce}
 use Rattle.theory_records.specs.Written.{Reads, AllRead, noMore, oneRead, atEnd, record-some, record-long, record-behind, NodeFits, nextNode, node-reads, walk-written-all}
 
 -- a node that is good among all of them is good beside those before it
@@ -50,14 +51,40 @@ good-among labels (y ∷ done) x rest g =
     subst (λ (n : Node). not (isElement (classOf labels (n .label))) || eqb (n .value) 0 ≡ true) last (b .value) in
     and-true (and-true (and-true one two) three) four
 
+-- and one that is there once is once beside those before it
+once-among : (single : ℕ → Bool) (done : List Node) (x : Node) (rest : List Node) → NodesOnce single (done ++ (x ∷ rest)) → repeated single done x ≡ false
+unfolding repeated
+once-among single done x rest o =
+    false-of (single (x .label) && any test done)
+    (λ h.
+    let s = any-found test noNode done (and-right (single (x .label)) (any test done) h) in
+    let last = getD-append-seam done x rest noNode in
+    let old = List·getD-append done (x ∷ rest) noNode (s .0) (s .1) in
+    let inside : length done < length (done ++ (x ∷ rest)) = omega (arith, length-append done (x ∷ rest)) in
+    o .one (s .0) (length done) (s .1) inside
+    (subst (λ (n : Node). T (single (n .label))) (sym last) (and-left (single (x .label)) (any test done) h))
+    (ap (λ (n : Node). n .parent) old ∙ eqb→eq _ _ (and-left (eqb (getD done (s .0) noNode .parent) (x .parent)) _ (s .2)) ∙ sym (ap (λ (n : Node). n .parent) last))
+    (ap (λ (n : Node). n .label) old ∙ eqb→eq _ _ (and-right (eqb (getD done (s .0) noNode .parent) (x .parent)) _ (s .2)) ∙ sym (ap (λ (n : Node). n .label) last)))
+  where
+    test : Node → Bool
+    test m = eqb (m .parent) (x .parent) && eqb (m .label) (x .label)
+
+    any-found : (f : Node → Bool) (d : Node) (xs : List Node) → T (any f xs) → (i : ℕ) × (i < length xs) × T (f (getD xs i d))
+    any-found f d [] h = absurd (unfold any in h)
+    any-found f d (y ∷ ys) h =
+        ⊎-elim (λ (q : T (f y)). (0, omega arith, q))
+        (λ (q : T (any f ys)). let r = any-found f d ys q in (suc (r .0), (let k = r .1 in omega arith), r .2)) (or-cases (f y) (any f ys) (unfold any in h))
+
 module _ (labels : List Label) where
-  nodes-read : {kind : ℕ} → IsNodeKind kind → (done xs : List Node) → NodesGood labels (done ++ xs) → Each (NodeFits kind) xs
-      → length (done ++ xs) ≤ 4096 → AllRead (treeTests kind labels) (nextNode labels) atEnd (nodeBytes kind) done xs
-  nodes-read isNode done [] g fits few = noMore
-  nodes-read isNode done (x ∷ xs) g (also f fits) few =
-      oneRead (node-reads labels isNode done x f (omega (arith, length-append done (x ∷ xs))) (good-among labels done x xs g))
-      (nodes-read isNode (done ++ (x ∷ [])) xs
+  nodes-read : (second : Bool) {kind : ℕ} → IsNodeKind kind → (done xs : List Node) → NodesGood labels (done ++ xs)
+      → NodesOnce (singles second (classOf labels)) (done ++ xs) → Each (NodeFits kind) xs
+      → length (done ++ xs) ≤ 4096 → AllRead (treeTests second kind labels) (nextNode labels) atEnd (nodeBytes kind) done xs
+  nodes-read second isNode done [] g o fits few = noMore
+  nodes-read second isNode done (x ∷ xs) g o (also f fits) few =
+      oneRead (node-reads labels second isNode done x f (omega (arith, length-append done (x ∷ xs))) (good-among labels done x xs g) (once-among (singles second (classOf labels)) done x xs o))
+      (nodes-read second isNode (done ++ (x ∷ [])) xs
       (subst (λ (l : List Node). NodesGood labels l) (sym (append-snoc done x xs)) g)
+      (subst (λ (l : List Node). NodesOnce (singles second (classOf labels)) l) (sym (append-snoc done x xs)) o)
       fits
       (subst (λ (l : List Node). length l ≤ 4096) (sym (append-snoc done x xs)) few))
 
@@ -95,20 +122,21 @@ module _ (labels : List Label) where
       go (inr e) = rw e
 
   -- a tree that is written is read back
-  module _ {kind : ℕ} (isNode : IsNodeKind kind) (nodes : List Node) (g : NodesGood labels nodes) (fits : Each (NodeFits kind) nodes)
+  module _ (second : Bool) {kind : ℕ} (isNode : IsNodeKind kind) (nodes : List Node) (g : NodesGood labels nodes)
+      (o : NodesOnce (singles second (classOf labels)) nodes) (fits : Each (NodeFits kind) nodes)
       (few : length nodes ≤ 4096) (some : 0 < length nodes) where
-    pub tree-walked-written : treeWalked labels (flatten (map (nodeBytes kind) nodes)) ≡ record { number = 0; at = length nodes; state = nodes }
+    pub tree-walked-written : treeWalked second labels (flatten (map (nodeBytes kind) nodes)) ≡ record { number = 0; at = length nodes; state = nodes }
     unfolding treeWalked
     tree-walked-written =
-        ap (λ (k : ℕ). walk (treeTests k labels) (nextNode labels) 0 0 [] (flatten (map (nodeBytes kind) nodes))) (kind-written isNode nodes some)
-        ∙ walk-written-all (treeTests kind labels) (nextNode labels) (nodeBytes kind) nodes (nodes-read isNode [] nodes g fits few)
+        ap (λ (k : ℕ). walk (treeTests second k labels) (nextNode labels) 0 0 [] (flatten (map (nodeBytes kind) nodes))) (kind-written isNode nodes some)
+        ∙ walk-written-all (treeTests second kind labels) (nextNode labels) (nodeBytes kind) nodes (nodes-read second isNode [] nodes g o fits few)
 
-    pub nodes-in-written : nodesIn labels (flatten (map (nodeBytes kind) nodes)) ≡ nodes
+    pub nodes-in-written : nodesIn second labels (flatten (map (nodeBytes kind) nodes)) ≡ nodes
     unfolding nodesIn
     nodes-in-written = ap (λ (w : Walked (List Node)). w .state) tree-walked-written
 
     -- .. and accepted
-    pub tree-written-sound : treeRefusal labels (flatten (map (nodeBytes kind) nodes)) ≡ sound
+    pub tree-written-sound : treeRefusal second labels (flatten (map (nodeBytes kind) nodes)) ≡ sound
     unfolding treeRefusal firstRefusal oversize
     tree-written-sound =
         let bytes : List ℕ = flatten (map (nodeBytes kind) nodes) in

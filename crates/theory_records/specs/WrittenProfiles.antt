@@ -4,25 +4,24 @@ use mathlib.Core.Path.{_≡_, refl, sym, subst, ap, _∙_}
 use mathlib.Core.Bool.{Bool, true, false, cond, _&&_, _||_, not}
 use mathlib.Core.List.{List, [], _∷_, _++_, map, flatten, append-assoc, append-nil}
 use native.Mathlib.Omega.{arith}
-use native.Mathlib.Nat.{zero-add}
-use borrow.Author.Tests.{le-leb, le-ltb, leb-true}
+use borrow.Author.Tests.{le-leb, le-ltb, leb-true, ne-eqb}
 use lib.Dec.{leb, ltb, eqb}
-use lib.ListN.{length, drop, length-append}
+use lib.ListN.{length, getD, drop, length-append}
 use lib.Seq.{append-snoc}
 use Rattle.meaning.specs.Limits.{inProfile}
 use Rattle.meaning.specs.Lists.{Each, end, also, every, any, same}
 use Rattle.meaning.specs.Paths.{Label}
 use Rattle.meaning.specs.Keys.{Key}
 use Rattle.meaning.specs.Records.{recordLength, recordKind, recordBody, recordBytes, bodyEnds, readLabel, labelBytes, keyIn, keyBody, keyBytes}
-use Rattle.meaning.specs.Refusals.{Refusal, sound, firstRefusal, oversize, Walked, firstOf, walk, isLetter, inName, isName, goodLabel, keyTests, Profile, noProfile, profileTests, profileNext, profileWalked, profileIn, profileRefusal}
+use Rattle.meaning.specs.Refusals.{Refusal, sound, firstRefusal, oversize, Walked, firstOf, walk, isLetter, inName, isName, goodLabel, keyTests, Profile, noProfile, profileTests, profileNext, whole, hasEdition, behindEdition, firstEntry, editionRefusal, profileWalked, profileIn, profileRefusal}
 use Rattle.theory_paths.specs.Good.{GoodKey, tests-of-good}
 use Rattle.theory_records.specs.Tests.{both, never}
 use Rattle.theory_records.specs.Walks.{walk-end}
-use Rattle.theory_records.specs.Heads.{written-kind, written-body}
+use Rattle.theory_records.specs.Heads.{written-length, written-kind, written-body, written-rest}
 use Rattle.theory_records.specs.KeyBodies.{key-in-read, key-is-read}
 use Rattle.theory_records.specs.Encodings.{written-whole, label-read}
 use Rattle.theory_records.specs.Judged.{profile-label-passes, profile-key-passes}
-use Rattle.theory_records.specs.Profiles.{profileBytes, LabelsRead, noLabel, oneMore, next-label, next-key}
+use Rattle.theory_records.specs.Profiles.{entryBytes, editionBytes, profileBytes, LabelsRead, noLabel, oneMore, next-label, next-key}
 use Rattle.theory_records.specs.Written.{Reads, AllRead, noMore, oneRead, addAll, walk-written, record-some, record-long, record-behind}
 use Rattle.theory_records.specs.WrittenInputs.{profile-body-size}
 
@@ -133,36 +132,85 @@ keys-read labels done (also {x = k} {xs = ks} g gs) few =
     oneRead (key-record-reads (record { labels = labels; keys = done }) k g (omega (arith, length-append done (k ∷ ks))))
     (keys-read labels (done ++ (k ∷ [])) gs (subst (λ (l : List Key). length l ≤ 64) (sym (append-snoc done k ks)) few))
 
--- A profile that can be written
-pub record ProfileFits (p : Profile) : Type 0 where
+-- A profile of an edition that can be written
+pub record ProfileFits (second : Bool) (p : Profile) : Type 0 where
   pub labels : LabelsRead (p .labels)
   pub keys : Each (GoodKey (p .labels) inProfile) (p .keys)
   pub few : length (p .keys) ≤ 64
-  pub size : length (profileBytes p) ≤ 16384
+  pub size : length (profileBytes second p) ≤ 16384
 
-pub profile-walked-written : (p : Profile) → ProfileFits p
-    → profileWalked (profileBytes p) ≡ record { number = 0; at = length (p .labels) + length (p .keys); state = p }
-unfolding profileWalked profileBytes
-profile-walked-written p f =
+-- labels and keys, from record n on
+entries-walked : (n : ℕ) (p : Profile) → LabelsRead (p .labels) → Each (GoodKey (p .labels) inProfile) (p .keys) → length (p .keys) ≤ 64
+    → walk profileTests profileNext 0 n noProfile (entryBytes p) ≡ record { number = 0; at = n + length (p .labels) + length (p .keys); state = p }
+unfolding entryBytes
+entries-walked n p labels keys few =
     let K : List ℕ = flatten (map keyBytes (p .keys)) in
     let all : Profile = addAll profileTests profileNext addKey keyBytes (labelled (p .labels)) (p .keys) in
-    let n : ℕ = 0 + length (p .labels) in
-    walk-written profileTests profileNext addLabel labelBytes 0 K (labels-read (f .labels))
-    ∙ (ap (λ (s : Profile). walk profileTests profileNext 0 n s K) (add-labels [] (p .labels))
-    ∙ (ap (λ (l : List ℕ). walk profileTests profileNext 0 n (labelled (p .labels)) l) (sym (append-nil K))
-    ∙ (walk-written profileTests profileNext addKey keyBytes n [] (keys-read (p .labels) [] (f .keys) (f .few))
-    ∙ (walk-end profileTests profileNext (n + length (p .keys)) all
-    ∙ finish (n + length (p .keys)) all (ap (λ (m : ℕ). m + length (p .keys)) (zero-add (length (p .labels)))) (add-keys (p .labels) [] (p .keys))))))
+    let m : ℕ = n + length (p .labels) in
+    walk-written profileTests profileNext addLabel labelBytes n K (labels-read labels)
+    ∙ (ap (λ (s : Profile). walk profileTests profileNext 0 m s K) (add-labels [] (p .labels))
+    ∙ (ap (λ (l : List ℕ). walk profileTests profileNext 0 m (labelled (p .labels)) l) (sym (append-nil K))
+    ∙ (walk-written profileTests profileNext addKey keyBytes m [] (keys-read (p .labels) [] keys few)
+    ∙ (walk-end profileTests profileNext (m + length (p .keys)) all ∙ finish all (add-keys (p .labels) [] (p .keys))))))
   where
-    finish : (n : ℕ) (q : Profile) → n ≡ length (p .labels) + length (p .keys) → q ≡ p
-        → _≡_ {A = Walked Profile} (record { number = 0; at = n; state = q })
-        (record { number = 0; at = length (p .labels) + length (p .keys); state = p })
-    finish n q e r = λ i. record { number = 0; at = e i; state = r i }
+    finish : (q : Profile) → q ≡ p
+        → _≡_ {A = Walked Profile} (record { number = 0; at = n + length (p .labels) + length (p .keys); state = q })
+        (record { number = 0; at = n + length (p .labels) + length (p .keys); state = p })
+    finish q r = λ i. record { number = 0; at = n + length (p .labels) + length (p .keys); state = r i }
 
-pub profile-written-sound : (p : Profile) → ProfileFits p → profileRefusal (profileBytes p) ≡ sound
-unfolding profileRefusal firstRefusal oversize
-profile-written-sound p f = rw (le-ltb 16384 (length (profileBytes p)) (f .size), profile-walked-written p f)
+-- labels and keys do not begin with an edition's record
+entries-plain : (p : Profile) → LabelsRead (p .labels) → Each (GoodKey (p .labels) inProfile) (p .keys) → hasEdition (entryBytes p) ≡ false
+unfolding hasEdition entryBytes flatten labelBytes keyBytes
+entries-plain p labels keys = go (p .labels) (p .keys)
+  where
+    kind-of : (kind : ℕ) (body rest : List ℕ) → kind < 6 → whole (recordBytes kind body ++ rest) && eqb (recordKind (recordBytes kind body ++ rest)) 6 ≡ false
+    kind-of kind body rest h =
+        ap (λ (b : Bool). whole (recordBytes kind body ++ rest) && b)
+        (ap (λ (k : ℕ). eqb k 6) (written-kind kind body rest (omega arith)) ∙ ne-eqb kind 6 (λ e. omega arith))
+        ∙ none (whole (recordBytes kind body ++ rest))
+      where
+        none : (b : Bool) → b && false ≡ false
+        none true = refl
+        none false = refl
 
-pub profile-in-written : (p : Profile) → ProfileFits p → profileIn (profileBytes p) ≡ p
+    go : (labels : List Label) (keys : List Key)
+        → hasEdition (flatten (map labelBytes labels) ++ flatten (map keyBytes keys)) ≡ false
+    go (l ∷ labels) keys =
+        ap hasEdition (append-assoc (labelBytes l) (flatten (map labelBytes labels)) (flatten (map keyBytes keys)))
+        ∙ kind-of 1 (l .number ∷ l .class ∷ l .name) (flatten (map labelBytes labels) ++ flatten (map keyBytes keys)) (omega arith)
+    go [] (k ∷ keys) = kind-of 2 (keyBody k) (flatten (map keyBytes keys)) (omega arith)
+    go [] [] = unfold whole in refl
+
+-- the edition's record in front
+pub profile-walked-written : (second : Bool) (p : Profile) → ProfileFits second p
+    → (hasEdition (profileBytes second p) ≡ second)
+    × (profileWalked (profileBytes second p) .number ≡ 0) × (profileWalked (profileBytes second p) .state ≡ p)
+unfolding profileWalked profileBytes editionBytes firstEntry behindEdition
+profile-walked-written false p f =
+    let e = entries-plain p (f .labels) (f .keys) in
+    let w = entries-walked 0 p (f .labels) (f .keys) (f .few) in
+    (e, rw e (ap (λ (x : Walked Profile). x .number) w), rw e (ap (λ (x : Walked Profile). x .state) w))
+profile-walked-written true p f =
+    let all : List ℕ = recordBytes 6 (2 ∷ []) ++ entryBytes p in
+    let e : hasEdition all ≡ true =
+    unfold hasEdition in
+    rw (written-whole 6 (2 ∷ []) (entryBytes p) (omega arith) (omega arith), written-kind 6 (2 ∷ []) (entryBytes p) (omega arith)) (unfold bodyEnds in refl) in
+    let b : drop (recordLength all) all ≡ entryBytes p =
+    ap (λ (k : ℕ). drop k all) (written-length 6 (2 ∷ []) (entryBytes p) (omega arith)) ∙ written-rest 6 (2 ∷ []) (entryBytes p) in
+    let w = entries-walked 1 p (f .labels) (f .keys) (f .few) in
+    (e, rw (e, b) (ap (λ (x : Walked Profile). x .number) w), rw (e, b) (ap (λ (x : Walked Profile). x .state) w))
+
+pub profile-written-sound : (second : Bool) (p : Profile) → ProfileFits second p → profileRefusal (profileBytes second p) ≡ sound
+unfolding profileRefusal firstRefusal oversize editionRefusal
+profile-written-sound false p f =
+    let w = profile-walked-written false p f in
+    rw (le-ltb 16384 (length (profileBytes false p)) (f .size), w .0, w .1)
+profile-written-sound true p f =
+    let w = profile-walked-written true p f in
+    let byte : getD (recordBody (profileBytes true p)) 0 0 ≡ 2 =
+    unfold profileBytes editionBytes in ap (λ (l : List ℕ). getD l 0 0) (written-body 6 (2 ∷ []) (entryBytes p) (omega arith)) in
+    rw (le-ltb 16384 (length (profileBytes true p)) (f .size), w .0, byte, w .1)
+
+pub profile-in-written : (second : Bool) (p : Profile) → ProfileFits second p → profileIn (profileBytes second p) ≡ p
 unfolding profileIn
-profile-in-written p f = ap (λ (w : Walked Profile). w .state) (profile-walked-written p f)
+profile-in-written second p f = profile-walked-written second p f .2

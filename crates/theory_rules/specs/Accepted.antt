@@ -9,12 +9,14 @@ use lib.Seq.{take-length}
 use Rattle.meaning.specs.Limits.{inProof}
 use Rattle.meaning.specs.Lists.{Each}
 use Rattle.meaning.specs.Lists.Each.{end, also}
-use Rattle.meaning.specs.Paths.{Class, Label, Included}
-use Rattle.meaning.specs.Trees.{Table, IsTree}
+use mathlib.Core.Bool.{Bool}
+use Rattle.meaning.specs.Paths.{Class, Label, Included, classOf, singles, Agrees}
+use Rattle.meaning.specs.Trees.{Table, IsTree, Once}
 use Rattle.meaning.specs.Keys.{Key, Keeps, Implied}
-use Rattle.meaning.specs.Rules.{Line, Follows, rule0, rule1, rule2, rule3, rule4, rule5, rule6, rule7, rule8, rule9, lineKeys, FollowsBelow, EndsWith, Accepted}
+use Rattle.meaning.specs.Rules.{Line, Follows, rule0, rule1, rule2, rule3, rule4, rule5, rule6, rule7, rule8, rule9, FollowsIn, shared, rule10, lineKeys, FollowsBelow, EndsWith, Accepted}
 use Rattle.theory_paths.specs.Words.{Word, member→word}
 use Rattle.theory_paths.specs.Good.{GoodLabels, GoodKey, included-good, context-symbols, target-symbols, valid-context, valid-target}
+use Rattle.theory_rules.specs.Single.{single-kept}
 use Rattle.theory_rules.specs.Rules.{epsilon-kept, superkey-kept, context-kept, target-kept, context-target-kept, subnodes-kept, interaction-kept, prefix-epsilon-kept, subnodes-epsilon-kept}
 
 -- what holds of each member holds of the one that stands at a number
@@ -58,8 +60,11 @@ pub record Sound (labels : List Label) (κ : ℕ → Class) (t : Table) (k : Key
   pub good : GoodKey labels inProof k
   pub kept : Keeps κ t k
 
-module _ (labels : List Label) (good : GoodLabels labels) (κ : ℕ → Class) (t : Table) (tree : IsTree κ t) (keys : List Key)
-    (keeps : Each (Keeps κ t) keys) where
+module _ (second : Bool) (labels : List Label) (good : GoodLabels labels) (κ : ℕ → Class) (agrees : Agrees labels κ) (t : Table) (tree : IsTree κ t)
+    (once : Once (singles second κ) t) (keys : List Key) (keeps : Each (Keeps κ t) keys) where
+  abbrev Single : ℕ → Bool
+  Single = singles second (classOf labels)
+
   -- one line that follows
   pub line-kept : (earlier : List Key) (line : Line) → Each (Sound labels κ t) earlier → GoodKey labels inProof (line .key)
       → Follows labels keys earlier line → Keeps κ t (line .key)
@@ -81,8 +86,14 @@ module _ (labels : List Label) (good : GoodLabels labels) (κ : ℕ → Class) (
   line-kept earlier line before gk (rule9 r p q e f h) =
       interaction-kept κ t p q (line .key) h (each-number before (line .first) e .kept) (each-number before (line .second) f .kept)
 
+  -- .. in the edition
+  line-kept-in : (earlier : List Key) (line : Line) → Each (Sound labels κ t) earlier → GoodKey labels inProof (line .key)
+      → FollowsIn Single labels keys earlier line → Keeps κ t (line .key)
+  line-kept-in earlier line before gk (shared f) = line-kept earlier line before gk f
+  line-kept-in earlier line before gk (rule10 r f s h) = single-kept second labels good κ agrees t once (line .key) h
+
   -- every line before number n
-  pub lines-kept : (lines : List Line) → Each (λ (l : Line). GoodKey labels inProof (l .key)) lines → (n : ℕ) → FollowsBelow labels keys lines n
+  pub lines-kept : (lines : List Line) → Each (λ (l : Line). GoodKey labels inProof (l .key)) lines → (n : ℕ) → FollowsBelow Single labels keys lines n
       → Each (Sound labels κ t) (lineKeys (take n lines))
   unfolding FollowsBelow lineKeys
   lines-kept lines well zero follows = end
@@ -94,14 +105,15 @@ module _ (labels : List Label) (good : GoodLabels labels) (κ : ℕ → Class) (
       (sym (ap (λ (ls : List Line). map (λ (l : Line). l .key) ls) (take-next lines n (here .line) (here .stands))
       ∙ map-append (λ (l : Line). l .key) (take n lines) (here .line ∷ [])))
       (each-append before
-      (also (record { good = gk; kept = line-kept (lineKeys (take n lines)) (here .line) before gk (here .follows) }) end))
+      (also (record { good = gk; kept = line-kept-in (lineKeys (take n lines)) (here .line) before gk (here .follows) }) end))
 
 -- Demand 2's other half (ARGUMENT 3 and 7): what an accepted proof ends with is implied
-pub accepted-implied : (labels : List Label) (keys : List Key) (question : Key) (lines : List Line) → GoodLabels labels
-    → Each (λ (l : Line). GoodKey labels inProof (l .key)) lines → Accepted labels keys question lines → Implied labels keys question
+pub accepted-implied : (second : Bool) (labels : List Label) (keys : List Key) (question : Key) (lines : List Line) → GoodLabels labels
+    → Each (λ (l : Line). GoodKey labels inProof (l .key)) lines → Accepted (singles second (classOf labels)) labels keys question lines
+    → Implied second labels keys question
 unfolding Implied EndsWith lineKeys
-accepted-implied labels keys question lines good well accepted κ agrees t tree keeps =
-    let all = lines-kept labels good κ t tree keys keeps lines well (length lines) (accepted .each) in
+accepted-implied second labels keys question lines good well accepted κ agrees t tree once keeps =
+    let all = lines-kept second labels good κ agrees t tree once keys keeps lines well (length lines) (accepted .each) in
     each-number
     (subst (λ (ls : List Line). Each (Sound labels κ t) (map (λ (l : Line). l .key) ls)) (take-length lines) all)
     (length lines - 1) (accepted .last) .kept

@@ -15,8 +15,8 @@ use Rattle.meaning.specs.Paths.{Label, Class, classOf, simple}
 use Rattle.meaning.specs.Trees.{Table, tableOf}
 use Rattle.meaning.specs.Keys.{Key, Breaks, Keeps}
 use Rattle.meaning.specs.Records.{recordBody, recordKind, keyIn}
-use Rattle.meaning.specs.Refusals.{nodesIn, questionIn, treeRefusal}
-use Rattle.meaning.specs.Operations.{TestsTree, ChecksCounterexample, CounterexampleJudged, refusedBy, plain, kept, broken, accepted, labelsIn, keysIn, recordsFrom, treeIn, KeepsIn, BreaksIn}
+use Rattle.meaning.specs.Refusals.{firstEntry, nodesIn, questionIn, treeRefusal}
+use Rattle.meaning.specs.Operations.{TestsTree, ChecksCounterexample, CounterexampleJudged, refusedBy, plain, kept, broken, accepted, secondIn, labelsIn, keysIn, recordsFrom, treeIn, KeepsIn, BreaksIn}
 use Rattle.meaning.specs.Operations.CounterexampleJudged.{breaksKey, keepsQuestion, refutes}
 use Rattle.shapes.specs.Classes.{Tabled, classBy}
 use Rattle.theory_paths.specs.Bools.{each-every}
@@ -38,32 +38,32 @@ use Rattle.records.specs.ProfileWalks.{ProfileSays}
 use Rattle.tree_nodes.specs.FileTable.{fileTable, TreeBytes}
 use Rattle.tree_nodes.specs.Decides.{Decides}
 use Rattle.tree_search.specs.Search.{GoodKey}
-use Rattle.checks.specs.Found.{Ready, Tables, ready-of, fine-is}
+use Rattle.checks.specs.Found.{ReadyIn, Tables, ready-in, fine-is}
 use Rattle.tree_checks.specs.Inputs.{Passes, BothSay, none-refuses, profile-refuses, both-refuse}
 use Rattle.tree_checks.specs.ProfileKeys.{keyBodyAt, KeyBodies, KeptBelow, LowestBroken}
 
 -- An accepted question and an accepted tree under a class table
-pub record Asked (question tree classes : List ℕ) : Type 0 where
+pub record Asked (second : Bool) (question tree classes : List ℕ) : Type 0 where
   pub tables : Tables classes
-  pub passes : (labels : List Label) → Tabled labels classes → Passes labels question tree
+  pub passes : (labels : List Label) → Tabled labels classes → Passes second labels question tree
 
--- An accepted profile with its class table and its counts
-pub record Counted (profile classes : List ℕ) (labels keys : ℕ) : Type 0 where
-  pub ready : Ready profile classes
-  pub labelCount : labels ≡ length (labelsIn profile)
+-- An accepted profile with its class table, its edition and its counts
+pub record Counted (profile classes : List ℕ) (second : Bool) (before keys : ℕ) : Type 0 where
+  pub ready : ReadyIn profile classes second
+  pub beforeKeys : before ≡ firstEntry profile + length (labelsIn profile)
   pub keyCount : keys ≡ length (keysIn profile)
 
-pub asked-of : {question tree classes : List ℕ} → Tables classes → {o : Outcome} → BothSay question tree classes o → o ≡ O.Fine
-    → Asked question tree classes
+pub asked-of : {second : Bool} {question tree classes : List ℕ} → Tables classes → {o : Outcome} → BothSay second question tree classes o → o ≡ O.Fine
+    → Asked second question tree classes
 unfolding BothSay
-asked-of {question} {tree} {classes} tables says k =
-    record { tables = tables; passes = subst (BothSay question tree classes) k says }
+asked-of {second} {question} {tree} {classes} tables says k =
+    record { tables = tables; passes = subst (BothSay second question tree classes) k says }
 
-pub counted-of : {profile classes : List ℕ} {judged : Judged} {labels keys : ℕ} → ProfileSays profile judged classes labels keys → {o : Outcome}
-    → o ≡ outcomeOf 1 judged → o ≡ O.Fine → Counted profile classes labels keys
+pub counted-of : {profile classes : List ℕ} {judged : Judged} {second : Bool} {labels keys : ℕ} → ProfileSays profile judged classes second labels keys → {o : Outcome}
+    → o ≡ outcomeOf 1 judged → o ≡ O.Fine → Counted profile classes second labels keys
 counted-of says e k =
     let z = sound-number (fine-is says e k) in
-    record { ready = ready-of says e k; labelCount = says .labelCount z; keyCount = says .keyCount z }
+    record { ready = ready-in says e k; beforeKeys = says .beforeKeys z; keyCount = says .keyCount z }
 
 -- a key record that was accepted has the body of a key
 key-body : (labels : List Label) (limits : KeyLimits) (l : List ℕ) → Whole l → recordKind l ≡ 2
@@ -76,12 +76,12 @@ key-body labels limits l w k g =
       simples = each-every simple (keyIn (recordBody l) .paths) (Good.key-path-simple labels limits (keyIn (recordBody l)) g);
     }
 
-module _ {question tree classes : List ℕ} (asked : Asked question tree classes) where
-  own : Passes (asked .tables .labels) question tree
+module _ {second : Bool} {question tree classes : List ℕ} (asked : Asked second question tree classes) where
+  own : Passes second (asked .tables .labels) question tree
   own = asked .passes (asked .tables .labels) (asked .tables .tabled)
 
   pub asked-tree : TreeBytes classes tree
-  asked-tree = tree-bytes (asked .tables .labels) tree (own .judged) (asked .tables .good) classes (asked .tables .small) (asked .tables .tabled)
+  asked-tree = tree-bytes second (asked .tables .labels) tree (own .judged) (asked .tables .good) classes (asked .tables .small) (asked .tables .tabled)
 
   pub asked-key : {body : List ℕ} → body ≡ recordBody question → GoodKey body
   unfolding questionIn
@@ -89,16 +89,16 @@ module _ {question tree classes : List ℕ} (asked : Asked question tree classes
       let a = question-accepts (asked .tables .labels) question (own .asked) in
       subst GoodKey (sym e) (key-body (asked .tables .labels) inProfile question (a .isWhole) (a .kind) (a .good))
 
-  module _ {profile : List ℕ} (ready : Ready profile classes) where
-    here : Passes (labelsIn profile) question tree
-    here = asked .passes (labelsIn profile) (ready .tabled)
+  module _ {profile : List ℕ} (ready : ReadyIn profile classes second) where
+    here : Passes (secondIn profile) (labelsIn profile) question tree
+    here = subst (λ (b : Bool). Passes b (labelsIn profile) question tree) (ready .edition) (asked .passes (labelsIn profile) (ready .ready .tabled))
 
     same-class : classBy classes ≡ classOf (labelsIn profile)
     same-class =
-        class-same (labelsIn profile) (accepted-labels profile (sound-number (ready .accepted))) classes (asked .tables .small) (ready .tabled)
+        class-same (labelsIn profile) (accepted-labels profile (sound-number (ready .ready .accepted))) classes (asked .tables .small) (ready .ready .tabled)
 
-    same-table : fileTable tree ≡ tableOf (nodesIn (labelsIn profile) tree)
-    same-table = file-table (labelsIn profile) tree (here .judged)
+    same-table : fileTable tree ≡ tableOf (nodesIn (secondIn profile) (labelsIn profile) tree)
+    same-table = file-table (secondIn profile) (labelsIn profile) tree (here .judged)
 
     breaks-in : (key : Key) → Breaks (classBy classes) (fileTable tree) key → BreaksIn profile tree key
     unfolding BreaksIn treeIn
@@ -123,15 +123,15 @@ module _ {question tree classes : List ℕ} (asked : Asked question tree classes
       unfolding questionIn
       keeps-question e = subst (λ (b : List ℕ). KeepsIn profile tree (keyIn b)) isBody (keeps-in (keyIn body) (decided .no e))
 
-pub tests-broken : {question tree classes : List ℕ} → Asked question tree classes → {body : List ℕ} → body ≡ recordBody question → {found : Bool}
-    → Decides (Breaks (classBy classes) (fileTable tree) (keyIn body)) found → found ≡ true → (profile : List ℕ) → Ready profile classes
+pub tests-broken : {second : Bool} {question tree classes : List ℕ} → Asked second question tree classes → {body : List ℕ} → body ≡ recordBody question → {found : Bool}
+    → Decides (Breaks (classBy classes) (fileTable tree) (keyIn body)) found → found ≡ true → (profile : List ℕ) → ReadyIn profile classes second
     → TestsTree profile question tree (plain broken)
 unfolding TestsTree
 tests-broken asked b d e profile ready =
     unless-sound _ [] _ _ (none-refuses _ _ ready (here asked ready)) (inr (breaks-question asked ready b d e, refl))
 
-pub tests-kept : {question tree classes : List ℕ} → Asked question tree classes → {body : List ℕ} → body ≡ recordBody question → {found : Bool}
-    → Decides (Breaks (classBy classes) (fileTable tree) (keyIn body)) found → found ≡ false → (profile : List ℕ) → Ready profile classes
+pub tests-kept : {second : Bool} {question tree classes : List ℕ} → Asked second question tree classes → {body : List ℕ} → body ≡ recordBody question → {found : Bool}
+    → Decides (Breaks (classBy classes) (fileTable tree) (keyIn body)) found → found ≡ false → (profile : List ℕ) → ReadyIn profile classes second
     → TestsTree profile question tree (plain kept)
 unfolding TestsTree
 tests-kept asked b d e profile ready =
@@ -143,11 +143,11 @@ each-front zero xs h = end
 each-front (suc n) [] h = end
 each-front (suc n) (x ∷ xs) h = also (h zero x (omega arith) refl) (each-front n xs (λ i y l e. h (suc i) y (omega arith) e))
 
-module _ {profile classes : List ℕ} {labels keys : ℕ} (counted : Counted profile classes labels keys) where
-  body-place : (n : ℕ) → keyBodyAt profile labels n ≡ recordBody (recordsFrom (length (labelsIn profile) + n) profile)
+module _ {profile classes : List ℕ} {second : Bool} {labels keys : ℕ} (counted : Counted profile classes second labels keys) where
+  body-place : (n : ℕ) → keyBodyAt profile labels n ≡ recordBody (recordsFrom (firstEntry profile + length (labelsIn profile) + n) profile)
   unfolding keyBodyAt
   body-place n =
-      ap recordBody (sym (records-add labels n profile) ∙ ap (λ (l : ℕ). recordsFrom (l + n) profile) (counted .labelCount))
+      ap recordBody (sym (records-add labels n profile) ∙ ap (λ (l : ℕ). recordsFrom (l + n) profile) (counted .beforeKeys))
 
   place : (n : ℕ) → n < keys → KeyPlace (labelsIn profile) profile (keysIn profile) n
   place n h = key-place profile n (let e = counted .keyCount in omega arith)
@@ -163,7 +163,7 @@ module _ {profile classes : List ℕ} {labels keys : ℕ} (counted : Counted pro
   key-at : (n : ℕ) → n < keys → getElem? (keysIn profile) n ≡ some (keyIn (keyBodyAt profile labels n))
   key-at n h = place n h .is ∙ ap (λ (b : List ℕ). some (keyIn b)) (sym (body-place n))
 
-  module _ {question tree : List ℕ} (asked : Asked question tree classes) {r : ℕ}
+  module _ {question tree : List ℕ} (asked : Asked second question tree classes) {r : ℕ}
       (lowest : LowestBroken (classBy classes) (fileTable tree) profile labels keys r) where
     front-kept : Each (KeepsIn profile tree) (take r (keysIn profile))
     front-kept =
@@ -201,23 +201,23 @@ module _ {profile classes : List ℕ} {labels keys : ℕ} (counted : Counted pro
           (keepsQuestion (all-kept all) (keeps-question asked (counted .ready) isBody decided e) refl)
 
 -- the refusals of either operation
-pub tests-profile-stops : {profile classes : List ℕ} {judged : Judged} {labels keys : ℕ} → ProfileSays profile judged classes labels keys → {o : Outcome}
+pub tests-profile-stops : {profile classes : List ℕ} {judged : Judged} {second : Bool} {labels keys : ℕ} → ProfileSays profile judged classes second labels keys → {o : Outcome}
     → o ≡ outcomeOf 1 judged → {r : Refusal} (question tree : List ℕ) → o ≡ O.Refused r → TestsTree profile question tree (refusedBy (meant r) [])
 unfolding TestsTree
 tests-profile-stops says e question tree k = profile-refuses says e question tree _ k
 
-pub tests-both-stop : (question tree : List ℕ) {classes : List ℕ} {o : Outcome} → BothSay question tree classes o → {r : Refusal} → o ≡ O.Refused r
-    → (profile : List ℕ) → Ready profile classes → TestsTree profile question tree (refusedBy (meant r) [])
+pub tests-both-stop : {second : Bool} (question tree : List ℕ) {classes : List ℕ} {o : Outcome} → BothSay second question tree classes o → {r : Refusal} → o ≡ O.Refused r
+    → (profile : List ℕ) → ReadyIn profile classes second → TestsTree profile question tree (refusedBy (meant r) [])
 unfolding TestsTree
 tests-both-stop question tree says k profile ready = both-refuse question tree ready says _ k
 
-pub checks-profile-stops : {profile classes : List ℕ} {judged : Judged} {labels keys : ℕ} → ProfileSays profile judged classes labels keys → {o : Outcome}
+pub checks-profile-stops : {profile classes : List ℕ} {judged : Judged} {second : Bool} {labels keys : ℕ} → ProfileSays profile judged classes second labels keys → {o : Outcome}
     → o ≡ outcomeOf 1 judged → {r : Refusal} (question tree : List ℕ) → o ≡ O.Refused r
     → ChecksCounterexample profile question tree (refusedBy (meant r) [])
 unfolding ChecksCounterexample
 checks-profile-stops says e question tree k = profile-refuses says e question tree _ k
 
-pub checks-both-stop : (question tree : List ℕ) {profile classes : List ℕ} {labels keys : ℕ} → Counted profile classes labels keys → {o : Outcome}
-    → BothSay question tree classes o → {r : Refusal} → o ≡ O.Refused r → ChecksCounterexample profile question tree (refusedBy (meant r) [])
+pub checks-both-stop : {second : Bool} (question tree : List ℕ) {profile classes : List ℕ} {labels keys : ℕ} → Counted profile classes second labels keys → {o : Outcome}
+    → BothSay second question tree classes o → {r : Refusal} → o ≡ O.Refused r → ChecksCounterexample profile question tree (refusedBy (meant r) [])
 unfolding ChecksCounterexample
 checks-both-stop question tree counted says k = both-refuse question tree (counted .ready) says _ k

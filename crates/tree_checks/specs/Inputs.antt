@@ -1,11 +1,12 @@
 -- Question and tree under a class table: the first refusal of the two, or that both are accepted.
 use Prim.Native.Nat.{ℕ, _<_}
 use mathlib.Core.Path.{_≡_, refl, sym, _∙_, ap, subst}
+use mathlib.Core.Bool.{Bool}
 use mathlib.Core.List.{List, [], _∷_}
 use native.Mathlib.Omega.{arith}
 use Rattle.meaning.specs.Paths.{Label}
 use Rattle.meaning.specs.Refusals.{sound, firstRefusal, profileRefusal, questionRefusal, treeRefusal}
-use Rattle.meaning.specs.Operations.{Answer, Unless, refusedBy, labelsIn, treeRefusals}
+use Rattle.meaning.specs.Operations.{Answer, Unless, refusedBy, secondIn, labelsIn, treeRefusals}
 use Rattle.shapes.specs.Classes.{Tabled}
 use Rattle.judged.specs.Answers.{refusalOf}
 use Rattle.judged.specs.declared.Judged.{Judged}
@@ -17,24 +18,24 @@ use Rattle.answers.specs.Cases.{meant, outcomeOf}
 use Rattle.answers.specs.Outcomes.{outcome-refused, outcome-fine}
 use Rattle.theory_operations.specs.Refusing.{unless-refused, sound-more, sound-end, first-passes, first-named, sound-number, profile-settled, question-settled, tree-settled}
 use Rattle.records.specs.ProfileWalks.{ProfileSays}
-use Rattle.checks.specs.Found.{Ready, refused-is, refused-names}
+use Rattle.checks.specs.Found.{ReadyIn, refused-is, refused-names}
 
-pub record Stops (labels : List Label) (question tree : List ℕ) (r : Refusal) : Type 0 where
-  pub is : firstRefusal (questionRefusal labels question ∷ treeRefusal labels tree ∷ []) ≡ meant r
+pub record Stops (second : Bool) (labels : List Label) (question tree : List ℕ) (r : Refusal) : Type 0 where
+  pub is : firstRefusal (questionRefusal labels question ∷ treeRefusal second labels tree ∷ []) ≡ meant r
   pub named : 0 < r .input
 
-pub record Passes (labels : List Label) (question tree : List ℕ) : Type 0 where
+pub record Passes (second : Bool) (labels : List Label) (question tree : List ℕ) : Type 0 where
   pub asked : questionRefusal labels question .number ≡ 0
-  pub judged : treeRefusal labels tree .number ≡ 0
+  pub judged : treeRefusal second labels tree .number ≡ 0
 
-unfoldable pub BothSay : (question tree classes : List ℕ) → Outcome → Type 0
-BothSay question tree classes O.Fine = (labels : List Label) → Tabled labels classes → Passes labels question tree
-BothSay question tree classes (O.Refused r) = (labels : List Label) → Tabled labels classes → Stops labels question tree r
+unfoldable pub BothSay : Bool → (question tree classes : List ℕ) → Outcome → Type 0
+BothSay second question tree classes O.Fine = (labels : List Label) → Tabled labels classes → Passes second labels question tree
+BothSay second question tree classes (O.Refused r) = (labels : List Label) → Tabled labels classes → Stops second labels question tree r
 
-module _ (question classes : List ℕ) (asked : Judged)
+module _ (second : Bool) (question classes : List ℕ) (asked : Judged)
     (says : (labels : List Label) → Tabled labels classes → refusalOf 2 asked ≡ questionRefusal labels question) {o : Outcome}
     (e : o ≡ outcomeOf 2 asked) where
-  pub question-stops : (tree : List ℕ) {r : Refusal} → o ≡ O.Refused r → BothSay question tree classes (O.Refused r)
+  pub question-stops : (tree : List ℕ) {r : Refusal} → o ≡ O.Refused r → BothSay second question tree classes (O.Refused r)
   unfolding BothSay
   question-stops tree {r} k labels tabled =
       let n = outcome-refused 2 asked e k .named in
@@ -46,28 +47,28 @@ module _ (question classes : List ℕ) (asked : Judged)
       }
 
   pub tree-says : (tree : List ℕ) (judged : Judged)
-      → ((labels : List Label) → Tabled labels classes → refusalOf 3 judged ≡ treeRefusal labels tree) → o ≡ O.Fine → {r : Outcome}
-      → r ≡ outcomeOf 3 judged → BothSay question tree classes r
+      → ((labels : List Label) → Tabled labels classes → refusalOf 3 judged ≡ treeRefusal second labels tree) → o ≡ O.Fine → {r : Outcome}
+      → r ≡ outcomeOf 3 judged → BothSay second question tree classes r
   unfolding BothSay
-  tree-says tree judged after k {r} f = subst (BothSay question tree classes) (sym f) (go judged after)
+  tree-says tree judged after k {r} f = subst (BothSay second question tree classes) (sym f) (go judged after)
     where
       passes : (labels : List Label) → Tabled labels classes → questionRefusal labels question .number ≡ 0
       passes labels tabled = sound-number (outcome-fine 2 asked e k ∙ says labels tabled)
 
-      go : (judged : Judged) → ((labels : List Label) → Tabled labels classes → refusalOf 3 judged ≡ treeRefusal labels tree)
-          → BothSay question tree classes (outcomeOf 3 judged)
+      go : (judged : Judged) → ((labels : List Label) → Tabled labels classes → refusalOf 3 judged ≡ treeRefusal second labels tree)
+          → BothSay second question tree classes (outcomeOf 3 judged)
       go J.Sound after = λ labels tabled.
           record { asked = passes labels tabled; judged = sound-number (outcome-fine 3 J.Sound refl refl ∙ after labels tabled) }
       go (J.Refused n p) after = λ labels tabled.
           record {
             is = first-passes _ _ (passes labels tabled)
-                ∙ first-named (record { number = n; input = 3; place = p }) (treeRefusal labels tree) _ (tree-settled labels tree)
+                ∙ first-named (record { number = n; input = 3; place = p }) (treeRefusal second labels tree) _ (tree-settled second labels tree)
                 (outcome-refused 3 (J.Refused n p) refl refl .is ∙ after labels tabled) (omega arith);
             named = omega arith;
           }
 
 -- the profile's refusal comes first
-pub profile-refuses : {profile classes : List ℕ} {judged : Judged} {labels keys : ℕ} → ProfileSays profile judged classes labels keys → {o : Outcome}
+pub profile-refuses : {profile classes : List ℕ} {judged : Judged} {second : Bool} {labels keys : ℕ} → ProfileSays profile judged classes second labels keys → {o : Outcome}
     → o ≡ outcomeOf 1 judged → {r : Refusal} (question tree : List ℕ) (Q : Answer → Type 0) → o ≡ O.Refused r
     → Unless (treeRefusals profile question tree) [] Q (refusedBy (meant r) [])
 unfolding treeRefusals
@@ -75,15 +76,17 @@ profile-refuses {profile} says e {r} question tree Q k =
     unless-refused _ [] Q (meant r)
     (first-named (meant r) (profileRefusal profile) _ (profile-settled profile) (refused-is says e k) (refused-names says e k)) (refused-names says e k)
 
-module _ {profile classes : List ℕ} (question tree : List ℕ) (ready : Ready profile classes) where
-  pub both-refuse : {o : Outcome} → BothSay question tree classes o → {r : Refusal} (Q : Answer → Type 0) → o ≡ O.Refused r
+module _ {profile classes : List ℕ} {second : Bool} (question tree : List ℕ) (ready : ReadyIn profile classes second) where
+  pub both-refuse : {o : Outcome} → BothSay second question tree classes o → {r : Refusal} (Q : Answer → Type 0) → o ≡ O.Refused r
       → Unless (treeRefusals profile question tree) [] Q (refusedBy (meant r) [])
   unfolding treeRefusals BothSay
   both-refuse says {r} Q k =
-      let s : Stops (labelsIn profile) question tree r = subst (BothSay question tree classes) k says (labelsIn profile) (ready .tabled) in
-      unless-refused _ [] Q (meant r) (first-passes _ _ (sound-number (ready .accepted)) ∙ s .is) (s .named)
+      let s : Stops (secondIn profile) (labelsIn profile) question tree r =
+      subst (λ (b : Bool). Stops b (labelsIn profile) question tree r) (ready .edition)
+      (subst (BothSay second question tree classes) k says (labelsIn profile) (ready .ready .tabled)) in
+      unless-refused _ [] Q (meant r) (first-passes _ _ (sound-number (ready .ready .accepted)) ∙ s .is) (s .named)
 
-  pub none-refuses : Passes (labelsIn profile) question tree → firstRefusal (treeRefusals profile question tree) .number ≡ 0
+  pub none-refuses : Passes (secondIn profile) (labelsIn profile) question tree → firstRefusal (treeRefusals profile question tree) .number ≡ 0
   unfolding treeRefusals
   none-refuses p =
-      sound-more _ _ (sound-number (ready .accepted)) (sound-more _ _ (p .asked) (sound-more _ _ (p .judged) sound-end))
+      sound-more _ _ (sound-number (ready .ready .accepted)) (sound-more _ _ (p .asked) (sound-more _ _ (p .judged) sound-end))

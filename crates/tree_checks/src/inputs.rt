@@ -7,15 +7,15 @@ use records::question::read_question;
 use tree_records::tree::read_tree;
 ghost use Rattle.tree_checks.specs.Inputs.{BothSay};
 
-pub fn read_both(question: &[u8], tree: &[u8], classes: &[u8; 256]) -> Outcome
-    ensures { λ r. ⌜ BothSay (now (question .entry)) (now (tree .entry)) (now (classes .entry)) r ⌝ }
+pub fn read_both(question: &[u8], tree: &[u8], classes: &[u8; 256], second: bool) -> Outcome
+    ensures { λ r. ⌜ BothSay second (now (question .entry)) (now (tree .entry)) (now (classes .entry)) r ⌝ }
 {
     let asked = read_question(question, classes);
     let outcome = of_input(asked, QUESTION);
     match outcome {
         Outcome::Refused(refusal) => Outcome::Refused(refusal),
         Outcome::Fine => {
-            let judged = read_tree(tree, classes);
+            let judged = read_tree(tree, classes, second);
             of_input(judged, TREE_OR_PROOF)
         }
     }

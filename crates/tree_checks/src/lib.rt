@@ -18,7 +18,7 @@ use tree_tables::prepare;
 ghost use Prim.Native.Nat.{ℕ};
 ghost use mathlib.Core.List.{List};
 ghost use Rattle.meaning.specs.Operations.{TestsTree, ChecksCounterexample};
-ghost use Rattle.checks.specs.Found.{Ready, Tables};
+ghost use Rattle.checks.specs.Found.{ReadyIn, Tables};
 ghost use Rattle.answers.specs.Cases.{keepingAnswer, checkingAnswer};
 ghost use Rattle.tree_checks.specs.Asked.{Asked, Counted};
 
@@ -28,9 +28,9 @@ const BREAKS_A_KEY: usize = 12;
 const KEEPS_THE_QUESTION: usize = 13;
 
 // The answer for an accepted question and an accepted tree.
-fn keep_accepted(question: &[u8], tree: &[u8], classes: &[u8; 256]) -> Keeping
-    requires { ⌜ Asked (now question) (now tree) (now classes) ⌝ }
-    ensures { λ r. ⌜ ((profile : List ℕ) → Ready profile (now (classes .entry)) → TestsTree profile (now (question .entry)) (now (tree .entry)) (keepingAnswer r)) ⌝ }
+fn keep_accepted(question: &[u8], tree: &[u8], classes: &[u8; 256], second: bool) -> Keeping
+    requires { ⌜ Asked second (now question) (now tree) (now classes) ⌝ }
+    ensures { λ r. ⌜ ((profile : List ℕ) → ReadyIn profile (now (classes .entry)) second → TestsTree profile (now (question .entry)) (now (tree .entry)) (keepingAnswer r)) ⌝ }
 {
     let tables = prepare(tree, classes);
     let first = tables.first;
@@ -44,15 +44,15 @@ fn keep_accepted(question: &[u8], tree: &[u8], classes: &[u8; 256]) -> Keeping
     Keeping::Kept
 }
 
-// The answer under an accepted profile, of which only the class table is needed.
-fn keep_under(question: &[u8], tree: &[u8], classes: &[u8; 256]) -> Keeping
+// The answer under an accepted profile, of which only the class table and the edition are needed.
+fn keep_under(question: &[u8], tree: &[u8], classes: &[u8; 256], second: bool) -> Keeping
     requires { ⌜ Tables (now classes) ⌝ }
-    ensures { λ r. ⌜ ((profile : List ℕ) → Ready profile (now (classes .entry)) → TestsTree profile (now (question .entry)) (now (tree .entry)) (keepingAnswer r)) ⌝ }
+    ensures { λ r. ⌜ ((profile : List ℕ) → ReadyIn profile (now (classes .entry)) second → TestsTree profile (now (question .entry)) (now (tree .entry)) (keepingAnswer r)) ⌝ }
 {
-    let outcome = read_both(question, tree, classes);
+    let outcome = read_both(question, tree, classes, second);
     match outcome {
         Outcome::Refused(refusal) => Keeping::Refused(refusal),
-        Outcome::Fine => keep_accepted(question, tree, classes),
+        Outcome::Fine => keep_accepted(question, tree, classes, second),
     }
 }
 
@@ -63,23 +63,25 @@ pub fn keep(profile: &[u8], question: &[u8], tree: &[u8]) -> Keeping
     let read = read_profile(profile);
     let judged = read.judged;
     let classes = read.classes;
+    let second = read.second;
     let outcome = of_input(judged, PROFILE);
     match outcome {
         Outcome::Refused(refusal) => Keeping::Refused(refusal),
-        Outcome::Fine => keep_under(question, tree, &classes),
+        Outcome::Fine => keep_under(question, tree, &classes, second),
     }
 }
 
 // The answer for an accepted question and an accepted tree: 12 with the lowest key number, then 13.
 fn check_accepted(
     profile: &[u8],
-    labels: usize,
+    before: usize,
     keys: usize,
     question: &[u8],
     tree: &[u8],
     classes: &[u8; 256],
+    second: bool,
 ) -> Checking
-    requires { ⌜ Asked (now question) (now tree) (now classes) × Counted (now profile) (now classes) labels keys ⌝ }
+    requires { ⌜ Asked second (now question) (now tree) (now classes) × Counted (now profile) (now classes) second before keys ⌝ }
     ensures { λ r. ⌜ ChecksCounterexample (now (profile .entry)) (now (question .entry)) (now (tree .entry)) (checkingAnswer r) ⌝ }
 {
     let tables = prepare(tree, classes);
@@ -89,7 +91,7 @@ fn check_accepted(
     let same = tables.same;
     let broken = first_broken(
         profile,
-        labels,
+        before,
         keys,
         tree,
         classes,
@@ -116,22 +118,23 @@ fn check_accepted(
     })
 }
 
-// The answer under an accepted profile with so many labels and keys.
+// The answer under an accepted profile with so many records before its keys and so many keys.
 fn check_under(
     profile: &[u8],
-    labels: usize,
+    before: usize,
     keys: usize,
     question: &[u8],
     tree: &[u8],
     classes: &[u8; 256],
+    second: bool,
 ) -> Checking
-    requires { ⌜ Tables (now classes) × Counted (now profile) (now classes) labels keys ⌝ }
+    requires { ⌜ Tables (now classes) × Counted (now profile) (now classes) second before keys ⌝ }
     ensures { λ r. ⌜ ChecksCounterexample (now (profile .entry)) (now (question .entry)) (now (tree .entry)) (checkingAnswer r) ⌝ }
 {
-    let outcome = read_both(question, tree, classes);
+    let outcome = read_both(question, tree, classes, second);
     match outcome {
         Outcome::Refused(refusal) => Checking::Refused(refusal),
-        Outcome::Fine => check_accepted(profile, labels, keys, question, tree, classes),
+        Outcome::Fine => check_accepted(profile, before, keys, question, tree, classes, second),
     }
 }
 
@@ -142,11 +145,12 @@ pub fn check_counterexample(profile: &[u8], question: &[u8], tree: &[u8]) -> Che
     let read = read_profile(profile);
     let judged = read.judged;
     let classes = read.classes;
-    let labels = read.labels;
+    let second = read.second;
+    let before = read.before;
     let keys = read.keys;
     let outcome = of_input(judged, PROFILE);
     match outcome {
         Outcome::Refused(refusal) => Checking::Refused(refusal),
-        Outcome::Fine => check_under(profile, labels, keys, question, tree, &classes),
+        Outcome::Fine => check_under(profile, before, keys, question, tree, &classes, second),
     }
 }

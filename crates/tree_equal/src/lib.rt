@@ -1,6 +1,6 @@
 // Value equality of two nodes (document 01, "Trees, paths and keys"): "equality of two nodes calls equality of their child lists, which calls
 // node equality again; nodes left below fall." Where both classes are known they answer, so no element is gone down into for each ancestor.
-use tree_nodes::fields::is_element;
+use shapes::classes::is_element;
 use tree_nodes::fields::label;
 use tree_nodes::fields::value;
 use tree_nodes::links::at;

@@ -1,5 +1,5 @@
 // The listing's lines, written into a lent buffer (document 01, "The listing program").
-use tree_nodes::fields::is_element;
+use shapes::classes::is_element;
 use tree_nodes::fields::label;
 use tree_nodes::fields::parent;
 use tree_nodes::fields::size;

@@ -1,6 +1,5 @@
 -- The table that an accepted tree's bytes say, and child links over it.
 pub mod FileTable
-pub mod Classes
 pub mod Decides
 pub mod Links
 pub mod Ready

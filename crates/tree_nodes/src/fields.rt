@@ -8,10 +8,9 @@ use shapes::fields::wide;
 use shapes::fields::word;
 ghost use mathlib.Core.Path.{_≡_};
 ghost use Prim.Native.Nat.{_+_, _<_, _≤_};
-ghost use Rattle.meaning.specs.Paths.{isElement, isAttribute};
 ghost use Rattle.meaning.specs.Records.{valueBytes};
 ghost use Rattle.meaning.specs.Refusals.{nodeKindIn};
-ghost use Rattle.tree_nodes.specs.FileTable.{fileStride, fileTable, classBy};
+ghost use Rattle.tree_nodes.specs.FileTable.{fileStride, fileTable};
 
 // "tree 4,096 nodes"
 pub const NODES: usize = 4096;
@@ -25,12 +24,6 @@ const PARENT_AT: usize = 4;
 const LABEL_AT: usize = 6;
 
 const VALUE_AT: usize = 7;
-// "Label 1 is text"; "202 a filler attribute"; "class (1 element, 2 attribute)"
-const TEXT: usize = 1;
-
-const FILLER_ATTRIBUTE: usize = 202;
-
-const ATTRIBUTE_CLASS: usize = 2;
 
 // The kind of the file's nodes: that of its record 0, whose 4 head bytes decide.
 pub fn node_kind(tree: &[u8]) -> usize
@@ -89,30 +82,4 @@ pub fn value(tree: &[u8], i: usize) -> usize
     let long = node_bytes(tree);
     let at = long * i;
     number(&tree[at + VALUE_AT..at + long])
-}
-
-pub fn is_attribute(classes: &[u8; 256], label: usize) -> bool
-    requires { ⌜ label < 256 ⌝ }
-    ensures { λ r. ⌜ r ≡ isAttribute (classBy (now (classes .entry)) label) ⌝ }
-{
-    if label == TEXT {
-        return false;
-    }
-    if label == FILLER_ATTRIBUTE {
-        return true;
-    }
-    wide(classes[label]) == ATTRIBUTE_CLASS
-}
-
-pub fn is_element(classes: &[u8; 256], label: usize) -> bool
-    requires { ⌜ label < 256 ⌝ }
-    ensures { λ r. ⌜ r ≡ isElement (classBy (now (classes .entry)) label) ⌝ }
-{
-    if label == TEXT {
-        return false;
-    }
-    if is_attribute(classes, label) {
-        return false;
-    }
-    true
 }

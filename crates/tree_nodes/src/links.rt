@@ -1,9 +1,9 @@
 // Child links, built once backwards over the table: children stand after their parents.
 use crate::fields::NODES;
-use crate::fields::is_attribute;
 use crate::fields::label;
 use crate::fields::parent;
 use crate::fields::size;
+use shapes::classes::is_attribute;
 ghost use mathlib.Core.Path.{_≡_};
 ghost use Prim.Native.Nat.{ℕ, _+_, _*_, _<_, _≤_};
 ghost use lib.ListN.{length, getD};

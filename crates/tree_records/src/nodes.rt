@@ -3,8 +3,11 @@ use judged::ACCEPTED;
 use judged::BAD_NODE;
 use judged::NOT_ALLOWED;
 use judged::NOT_WHOLE;
+use judged::REPEATED;
 use judged::TOO_LARGE;
 use shapes::bodies::whole;
+use shapes::classes::is_attribute;
+use shapes::classes::is_element;
 use shapes::fields::HEAD_BYTES;
 use shapes::fields::KIND_AT;
 use shapes::fields::node_label;
@@ -14,16 +17,15 @@ use shapes::fields::too_many;
 use shapes::fields::wide;
 use shapes::fields::word;
 use tree_nodes::fields::bytes_of;
-use tree_nodes::fields::is_element;
 ghost use mathlib.Core.Path.{_≡_};
-ghost use Prim.Native.Nat.{_*_, _<_, _≤_};
+ghost use Prim.Native.Nat.{suc, _+_, _-_, _*_, _<_, _≤_};
 ghost use lib.ListN.{length};
 ghost use Rattle.meaning.specs.Records.{readNode};
 ghost use Rattle.meaning.specs.Refusals.{firstOf, goodRoot};
 ghost use Rattle.shapes.specs.Classes.{isLabelBy};
 ghost use Rattle.theory_records.specs.Encodings.{IsNodeKind};
 ghost use Rattle.theory_records.specs.TreeFiles.{stride};
-ghost use Rattle.tree_records.specs.Nodes.{goodBelowBy, goodNodeBy, nodeTestsBy};
+ghost use Rattle.tree_records.specs.Nodes.{goodBelowBy, goodNodeBy, scan, isTwin, bodyTestsBy, nodeTestsBy};
 
 // "Label 1 is text"; "201 is a filler element, 202 a filler attribute, 203 the root"
 const TEXT: usize = 1;
@@ -37,7 +39,9 @@ const ROOT_LABEL: usize = 203;
 const NO_NUMBER: usize = 65535;
 // "tree 4,096 nodes (36,864 bytes)"
 pub const TREE_NODES: usize = 4096;
-// Where the label stands in a node's record
+// Where parent and label stand in a node's record
+const PARENT_IN_RECORD: usize = 4;
+
 const LABEL_IN_RECORD: usize = 6;
 // A label that the class table does not declare
 const UNDECLARED: u8 = 0;
@@ -108,6 +112,61 @@ fn good_node(bytes: &[u8], nodes: usize, body: &[u8], classes: &[u8; 256], long:
     good_below(bytes, nodes, body, classes, long)
 }
 
+// Node i has this parent and this label.
+fn is_twin(bytes: &[u8], i: usize, parent: usize, label: usize, long: usize) -> bool
+    requires { ⌜ (9 ≤ long) × (long * i + long ≤ length (now bytes)) ⌝ }
+    ensures { λ r. ⌜ r ≡ isTwin long (now (bytes .entry)) parent label i ⌝ }
+{
+    if word(bytes, long * i + PARENT_IN_RECORD) != parent {
+        return false;
+    }
+    wide(bytes[long * i + LABEL_IN_RECORD]) == label
+}
+
+// Some node has, from number parent + 1 on: children stand behind their parent.
+fn has_twin(bytes: &[u8], nodes: usize, parent: usize, label: usize, long: usize) -> bool
+    requires { ⌜ (9 ≤ long) × (long * nodes ≤ length (now bytes)) × (parent < 65536) ⌝ }
+    ensures { λ r. ⌜ r ≡ scan (isTwin long (now (bytes .entry)) parent label) (nodes - suc parent) (suc parent) ⌝ }
+{
+    let mut i = parent + 1;
+    while i < nodes {
+        if is_twin(bytes, i, parent, label, long) {
+            return true;
+        }
+        i += 1;
+    }
+    false
+}
+
+// 8, then 16: "repeated attribute, after 8, edition 2 only"
+fn judge_body(
+    bytes: &[u8],
+    nodes: usize,
+    body: &[u8],
+    classes: &[u8; 256],
+    long: usize,
+    second: bool,
+) -> usize
+    requires { ⌜ (9 ≤ long) × (long * nodes ≤ length (now bytes)) × (3 ≤ length (now body)) × (length (now body) ≤ 7) ⌝ }
+    ensures { λ r. ⌜ r ≡ firstOf (bodyTestsBy long second (now (classes .entry)) (now (bytes .entry)) nodes (readNode (now (body .entry)))) ⌝ }
+{
+    if !good_node(bytes, nodes, body, classes, long) {
+        return BAD_NODE;
+    }
+    if !second {
+        return ACCEPTED;
+    }
+    let label = node_label(body);
+    if !is_attribute(classes, label) {
+        return ACCEPTED;
+    }
+    let parent = node_parent(body);
+    if has_twin(bytes, nodes, parent, label, long) {
+        return REPEATED;
+    }
+    ACCEPTED
+}
+
 // The number that the node record at the front of `rest` gives, after so many nodes of the kind at the front of `bytes`.
 pub fn judge_node(
     bytes: &[u8],
@@ -115,9 +174,10 @@ pub fn judge_node(
     rest: &[u8],
     classes: &[u8; 256],
     kind: usize,
+    second: bool,
 ) -> usize
     requires { ⌜ IsNodeKind kind × (stride kind * nodes ≤ length (now bytes)) ⌝ }
-    ensures { λ r. ⌜ r ≡ firstOf (nodeTestsBy kind (now (classes .entry)) (now (bytes .entry)) nodes (now (rest .entry))) ⌝ }
+    ensures { λ r. ⌜ r ≡ firstOf (nodeTestsBy second kind (now (classes .entry)) (now (bytes .entry)) nodes (now (rest .entry))) ⌝ }
 {
     if too_many(rest, kind, TREE_NODES, nodes) {
         return TOO_LARGE;
@@ -130,8 +190,5 @@ pub fn judge_node(
     }
     let end = word(rest, 0);
     let long = bytes_of(kind);
-    if good_node(bytes, nodes, &rest[HEAD_BYTES..end], classes, long) {
-        return ACCEPTED;
-    }
-    BAD_NODE
+    judge_body(bytes, nodes, &rest[HEAD_BYTES..end], classes, long, second)
 }

@@ -28,9 +28,9 @@ fn tree_limit(kind: usize) -> usize
     TREE_BYTES
 }
 
-// The refusal of input 3, a tree, under a class table that says what the labels say.
-pub fn read_tree(bytes: &[u8], classes: &[u8; 256]) -> Judged
-    ensures { λ r. ⌜ ((labels : List Label) → Tabled labels (now (classes .entry)) → refusalOf 3 r ≡ treeRefusal labels (now (bytes .entry))) ⌝ }
+// The refusal of input 3, a tree, under a class table that says what the labels say, in edition 2 or 1.
+pub fn read_tree(bytes: &[u8], classes: &[u8; 256], second: bool) -> Judged
+    ensures { λ r. ⌜ ((labels : List Label) → Tabled labels (now (classes .entry)) → refusalOf 3 r ≡ treeRefusal second labels (now (bytes .entry))) ⌝ }
 {
     let kind = node_kind(bytes);
     if tree_limit(kind) < bytes.len() {
@@ -42,7 +42,7 @@ pub fn read_tree(bytes: &[u8], classes: &[u8; 256]) -> Judged
     let mut rest = bytes;
     let mut nodes = 0;
     while 0 < rest.len() {
-        let number = judge_node(bytes, nodes, rest, classes, kind);
+        let number = judge_node(bytes, nodes, rest, classes, kind, second);
         if number != ACCEPTED {
             return Judged::Refused(number, nodes);
         }

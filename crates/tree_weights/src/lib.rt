@@ -2,8 +2,8 @@
 // mixed into 32 bits, such that value-equal nodes have equal weights. A sum, so that the order of children does not matter.
 // The low part of a weight counts the nodes from there down, exactly, since a sum keeps it and no node but the root has 4,096. So nodes of one
 // weight never lie below each other, and all calls of `node_eq` on them together visit at most the square of the nodes, whatever else collides.
+use shapes::classes::is_element;
 use tree_nodes::fields::NODES;
-use tree_nodes::fields::is_element;
 use tree_nodes::fields::label;
 use tree_nodes::fields::parent;
 use tree_nodes::fields::size;

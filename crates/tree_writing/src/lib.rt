@@ -2,8 +2,8 @@
 use drawing::Drawing;
 use drawing::draw_below;
 use drawing::draw_trunk;
+use shapes::classes::is_element;
 use shapes::fields::wide;
-use tree_nodes::fields::is_element;
 ghost use mathlib.Core.Path.{_≡_};
 ghost use Prim.Native.Nat.{_+_, _-_, _*_, _/_, _%_, _<_, _≤_};
 ghost use lib.ListN.{length};

@@ -34,6 +34,8 @@ use Rattle.meaning.specs.Operations.{
   implied,
   notImplied,
   accepted,
+  secondIn,
+  singleIn,
   labelsIn,
   keysIn,
   Decides,
@@ -57,7 +59,7 @@ use Rattle.meaning.specs.Operations.{
 }
 use Rattle.theory_records.specs.Questions.{lines-at-stop}
 use Rattle.theory_records.specs.Profiles.{accepted-labels, refusal-none}
-use Rattle.theory_records.specs.TreeFiles.{tree-is-tree}
+use Rattle.theory_records.specs.TreeFiles.{tree-is-tree, tree-once}
 use Rattle.theory_rules.specs.Accepted.{accepted-implied}
 use Rattle.theory_counter.specs.Counterexample.{class-agrees}
 use Rattle.theory_operations.specs.Refusing.{sound-more, sound-end, answer-large}
@@ -119,7 +121,7 @@ accepted-says rs Q u = passed-says rs [] Q (plain accepted) (accepted-passes rs 
 module _ (profile question buffer : List ℕ) (room : 65536 ≤ length buffer) (soundProfile : profileRefusal profile .number ≡ 0)
     (soundQuestion : questionRefusal (labelsIn profile) question .number ≡ 0) (answer : Answer) (decides : Decides profile question buffer answer) where
   abbrev Asked : Type 0
-  Asked = Implied (labelsIn profile) (keysIn profile) (questionIn question)
+  Asked = Implied (secondIn profile) (labelsIn profile) (keysIn profile) (questionIn question)
 
   -- "Each with its evidence": one of the two
   pub evidence : ProofWritten profile question buffer answer ⊎ TreeWritten profile question buffer answer
@@ -164,13 +166,13 @@ pub record ProofLines (profile question proof : List ℕ) : Type 0 where
   pub whole : proofWalked (labelsIn profile) proof .number ≡ 0
   pub some : 1 ≤ length (proofWalked (labelsIn profile) proof .state)
   pub most : length (proofWalked (labelsIn profile) proof .state) ≤ 256
-  pub holds : Accepted (labelsIn profile) (keysIn profile) (questionIn question) (proofWalked (labelsIn profile) proof .state)
+  pub holds : Accepted (singleIn profile) (labelsIn profile) (keysIn profile) (questionIn question) (proofWalked (labelsIn profile) proof .state)
 
 pub accepted-lines : (profile question proof : List ℕ) → ChecksProof profile question proof (plain accepted) → ProofLines profile question proof
 unfolding ChecksProof plain refusedBy
 accepted-lines profile question proof c = go (accepted-says _ _ c)
   where
-    go : ProofJudged (labelsIn profile) (keysIn profile) (questionIn question) (proofWalked (labelsIn profile) proof) (plain accepted)
+    go : ProofJudged (singleIn profile) (labelsIn profile) (keysIn profile) (questionIn question) (proofWalked (labelsIn profile) proof) (plain accepted)
         → ProofLines profile question proof
     go (unfollowed n h l f e) = absurd (not-refused (sym (ap (λ (a : Answer). a .verdict) e)))
     go (faulty l r e) = absurd (not-refused (sym (ap (λ (a : Answer). a .verdict) e)))
@@ -186,15 +188,16 @@ accepted-lines profile question proof c = go (accepted-says _ _ c)
 
 -- What the check of a proof accepts is true of every tree, whoever wrote it
 pub accepted-proof-implies : (profile question proof : List ℕ) → ChecksProof profile question proof (plain accepted)
-    → Implied (labelsIn profile) (keysIn profile) (questionIn question)
+    → Implied (secondIn profile) (labelsIn profile) (keysIn profile) (questionIn question)
+unfolding singleIn
 accepted-proof-implies profile question proof c =
     let p = accepted-lines profile question proof c in
-    accepted-implied (labelsIn profile) (keysIn profile) (questionIn question) _ (accepted-labels profile (p .sound))
+    accepted-implied (secondIn profile) (labelsIn profile) (keysIn profile) (questionIn question) _ (accepted-labels profile (p .sound))
     (lines-at-stop (labelsIn profile) proof .good) (p .holds)
 
 -- and what the check of a counterexample accepts is a tree that refutes the question
 pub accepted-tree-refutes : (profile question tree : List ℕ) → ChecksCounterexample profile question tree (plain accepted)
-    → Implied (labelsIn profile) (keysIn profile) (questionIn question) → ⊥
+    → Implied (secondIn profile) (labelsIn profile) (keysIn profile) (questionIn question) → ⊥
 unfolding ChecksCounterexample treeRefusals KeepsIn BreaksIn treeIn Implied Keeps plain refusedBy
 accepted-tree-refutes profile question tree c all = go (accepted-says _ _ c)
   where
@@ -205,8 +208,9 @@ accepted-tree-refutes profile question tree c all = go (accepted-says _ _ c)
         let one = refusal-none _ _ (accepted-passes _ _ c) in
         let two = refusal-none _ _ (one .1) in
         let three = refusal-none _ _ (two .1) in
-        all (classOf (labelsIn profile)) (class-agrees (labelsIn profile)) (tableOf (nodesIn (labelsIn profile) tree))
-        (tree-is-tree (labelsIn profile) (accepted-labels profile (one .0)) tree (three .0)) k b
+        all (classOf (labelsIn profile)) (class-agrees (labelsIn profile)) (tableOf (nodesIn (secondIn profile) (labelsIn profile) tree))
+        (tree-is-tree (secondIn profile) (labelsIn profile) (accepted-labels profile (one .0)) tree (three .0))
+        (tree-once (secondIn profile) (labelsIn profile) tree (three .0)) k b
 
 -- "never both": no question has a proof that the check accepts and a tree that the check accepts
 pub never-both : (profile question proof tree : List ℕ) → ChecksProof profile question proof (plain accepted)

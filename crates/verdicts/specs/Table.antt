@@ -16,7 +16,7 @@ use Rattle.theory_paths.specs.Bools.{and-left, and-right, every-Each}
 use Rattle.theory_paths.specs.Good.{GoodLabels, GoodKey, good-labels-none, good-labels-more, good-of-tests}
 use Rattle.theory_derive.specs.Logic.{each-imp, each-both}
 use Rattle.examples.specs.Bench.{Row, bench, rows}
-use Rattle.examples.specs.Steps.{RowHolds, steps-agree}
+use Rattle.examples.specs.Steps.{RowHolds, singleOf, steps-agree}
 use Rattle.verdicts.specs.Exactly.{implied-exactly}
 
 -- ---- the bench is well formed: its labels and keys pass the tests of a profile
@@ -59,14 +59,14 @@ rows-pass = tt
 -- 01's verdict of the row is the truth about all trees
 unfoldable pub RowDecided : Row → Type 0
 RowDecided r =
-    (T (r .implied) → Implied bench (r .keys) (r .asked))
-    × (T (not (r .implied)) → Implied bench (r .keys) (r .asked) → ⊥)
+    (T (r .implied) → Implied (r .second) bench (r .keys) (r .asked))
+    × (T (not (r .implied)) → Implied (r .second) bench (r .keys) (r .asked) → ⊥)
 
 row-decided : (r : Row) → T (rowPasses r) → RowHolds r → RowDecided r
-unfolding rowPasses RowHolds RowDecided
+unfolding rowPasses RowHolds RowDecided singleOf
 row-decided r t holds =
     let keysGood = each-imp key-good (every-Each keyPasses (r .keys) (and-right (keyPasses (r .asked)) _ t)) in
-    let exactly = implied-exactly bench bench-good (r .keys) (r .asked) keysGood (key-good (r .asked) (and-left (keyPasses (r .asked)) _ t)) in
+    let exactly = implied-exactly (r .second) bench bench-good (r .keys) (r .asked) keysGood (key-good (r .asked) (and-left (keyPasses (r .asked)) _ t)) in
     (λ i. exactly .1 (holds .0 i), λ n implied. holds .1 n (exactly .0 implied))
 
 pub rows-decided : Each RowDecided rows

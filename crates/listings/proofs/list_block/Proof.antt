@@ -3,7 +3,7 @@ use borrow.Author.Needs.{needs}
 use mathlib.Core.Path.{_≡_, sym, _∙_}
 use lib.ListN.{length, length-map}
 use Rattle.listings.specs.Listed.{small-lists, list-stops}
-use Rattle.checks.specs.Found.{tables-of, ready-of}
+use Rattle.checks.specs.Found.{tables-of, ready-in}
 use Rattle.listings.proofs.list_block.Statement.{statement}
 use Rattle.listings.proofs.list_block.Tie as tie
 use Rattle.listings.proofs.list_block.Reads as reads
@@ -51,7 +51,7 @@ same-length c = search needs
 
 -- src/lib.rt:33:1
 returns-3 : tie.Need-returns-3
-returns-3 c = c .before .before .list-tree .ensures _ (search (ready-of))
+returns-3 c = c .before .before .list-tree .ensures _ (search (ready-in))
 
 pub list-block-spec : {M : Type 1} → statement M
 list-block-spec =

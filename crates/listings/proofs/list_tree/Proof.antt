@@ -27,7 +27,7 @@ enum-told c = search needs
 
 -- src/lib.rt:28:42
 put-block-requires : tie.Need-put-block-requires
-put-block-requires c κs = (search (tree-ready), search needs)
+put-block-requires c κs = (tree-ready _ _ _ (c .before .before .before .before .read-tree .result) (c .before .before .before .before .read-tree .ensures) (c .before .before .before .of-input .ensures) (c .before .before .before .before .before .before .before .pre .0) (search), search needs)
 
 -- src/lib.rt:20:1
 returns : tie.Need-returns

@@ -16,14 +16,14 @@ use Rattle.shapes.proofs.keys.target.Reads as target-reads
 use Rattle.step_writing.proofs.single.write_of_key.Reads as write-of-key-reads
 
 abbrev Inv-loop : tie.InvT-loop
-Inv-loop out₀ profile labels asked count steps at₀ lines₀ left₀ out at lines left = Writing profile labels (keyIn asked) steps count out₀ out at₀ at lines left
+Inv-loop out₀ profile labels asked u count steps at₀ lines₀ left₀ out at lines left = Writing profile labels (keyIn asked) steps count out₀ out at₀ at lines left
 
 abbrev μ-loop : tie.MeasureT-loop
-μ-loop out₀ profile labels asked count steps at₀ lines₀ left₀ out at lines left = left
+μ-loop out₀ profile labels asked u count steps at₀ lines₀ left₀ out at lines left = left
 
 -- src/lib.rt:131:9
 write-first-requires : tie.Need-write-first-requires Inv-loop μ-loop
-write-first-requires c κs = (c .before .before .before .before .pre .key, let r = c .before .before .before .before .pre .room in omega arith)
+write-first-requires c κs = (c .before .before .before .before .pre .key, let r = c .before .before .before .before .pre .room in omega arith, c .before .before .before .before .pre .onChain)
 
 -- src/lib.rt:134:5
 loop-holds : tie.Need-loop-holds Inv-loop μ-loop
@@ -84,7 +84,7 @@ same-length c = c .before .before .write-of-key .ensures .wrote .kept ∙ c .bef
 
 -- src/lib.rt:127:1
 returns : tie.Need-returns Inv-loop μ-loop
-returns c = writing-end (c .before .before .before .before .before .before .before .loop .inv) (c .before .before .before .before .before .before .loop-test .left) _ _ (last-is (c .before .before .before .before .before .before .before .before .before .before .before .before .before .before .before .pre .key) (c .before .before .before .before .context .ensures) (c .before .before .before .target .ensures) (c .before .before .before .before .before .before .before .before .before .before .before .before .before .before .before .pre .normal)) (c .before .before .before .before .before .before .before .before .before .before .write-first .ensures) (c .before .before .write-of-key .ensures)
+returns c = writing-end (c .before .before .before .before .before .before .before .loop .inv) (c .before .before .before .before .before .before .loop-test .left) _ _ _ (last-is (c .before .before .before .before .before .before .before .before .before .before .before .before .before .before .before .pre .key) (c .before .before .before .before .context .ensures) (c .before .before .before .target .ensures) (c .before .before .before .before .before .before .before .before .before .before .before .before .before .before .before .pre .normal)) (c .before .before .before .before .before .before .before .before .before .before .write-first .ensures) (c .before .before .write-of-key .ensures)
 
 pub write-proof-spec : {M : Type 1} → statement M
 write-proof-spec =

@@ -2,7 +2,7 @@ use mathlib.Core.Path.{_≡_, sym, _∙_}
 use native.Mathlib.Omega.{arith}
 use lib.ListN.{length, length-map}
 use Rattle.tree_checks.specs.Asked.{tests-profile-stops}
-use Rattle.checks.specs.Found.{tables-of, ready-of}
+use Rattle.checks.specs.Found.{tables-of, ready-in}
 use borrow.Author.Needs.{needs}
 use Rattle.tree_checks.proofs.keep.Statement.{statement}
 use Rattle.tree_checks.proofs.keep.Tie as tie
@@ -38,7 +38,7 @@ returns c = search (tests-profile-stops)
 
 -- src/lib.rt:60:1
 returns-2 : tie.Need-returns-2
-returns-2 c = c .keep-under .ensures _ (search (ready-of))
+returns-2 c = c .keep-under .ensures _ (search (ready-in))
 
 pub keep-spec : {M : Type 1} → statement M
 keep-spec =

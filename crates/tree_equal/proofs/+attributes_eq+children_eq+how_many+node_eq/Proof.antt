@@ -28,7 +28,7 @@ use Rattle.tree_equal.proofs.node_eq.Reads as node-eq
 use Rattle.tree_equal.proofs.node_eq.Kinds as node-eq-kinds
 use Rattle.tree_equal.proofs.+attributes_eq+children_eq+how_many+node_eq.Lts-node_eq as node-eq-lts
 use Rattle.tree_equal.proofs.attribute_count.Reads as attribute-count-reads
-use Rattle.tree_nodes.proofs.fields.is_element.Reads as is-element-reads
+use Rattle.shapes.proofs.classes.is_element.Reads as is-element-reads
 use Rattle.tree_nodes.proofs.fields.label.Reads as label-reads
 use Rattle.tree_nodes.proofs.fields.value.Reads as value-reads
 use Rattle.tree_nodes.proofs.links.at.Reads as at-reads

@@ -9,7 +9,7 @@ use Rattle.tree_listing.proofs.put_node.Tie as tie
 use Rattle.tree_listing.proofs.put_node.Reads as reads
 use Rattle.tree_listing.proofs.put_node.Lts as lts
 use Rattle.tree_listing.proofs.put_field.Reads as put-field-reads
-use Rattle.tree_nodes.proofs.fields.is_element.Reads as is-element-reads
+use Rattle.shapes.proofs.classes.is_element.Reads as is-element-reads
 use Rattle.tree_nodes.proofs.fields.label.Reads as label-reads
 use Rattle.tree_nodes.proofs.fields.parent.Reads as parent-reads
 use Rattle.tree_nodes.proofs.fields.value.Reads as value-reads

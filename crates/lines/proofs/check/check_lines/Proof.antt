@@ -2,9 +2,9 @@ use native.Mathlib.Omega.{arith}
 use borrow.Author.Needs.{needs}
 use mathlib.Core.Path.{refl}
 use lib.ListN.{length, length-take, length-drop}
-use Rattle.meaning.specs.Operations.{labelsIn, keysIn}
+use Rattle.meaning.specs.Operations.{singleIn, labelsIn, keysIn}
 use Rattle.theory_records.specs.Bytes.{bytes-from}
-use Rattle.lines.specs.Checking.{Sofar, LineJudged, given-labels, given-is, part-keys, part-are, sofar-start, sofar-refused, sofar-head, sofar-few, sofar-start-of, sofar-end-of, sofar-body, sofar-next, sofar-unfollowed, sofar-done}
+use Rattle.lines.specs.Checking.{Sofar, LineJudged, given-labels, given-single, given-is, part-keys, part-are, sofar-start, sofar-refused, sofar-head, sofar-few, sofar-start-of, sofar-end-of, sofar-body, sofar-next, sofar-unfollowed, sofar-done}
 use Rattle.lines.proofs.check.check_lines.Statement.{statement}
 use Rattle.lines.proofs.check.check_lines.Tie as tie
 use Rattle.lines.proofs.check.check_lines.Reads as reads
@@ -16,14 +16,15 @@ use Rattle.records.proofs.keys.judge_line.Reads as judge-line-reads
 use Rattle.shapes.proofs.fields.word.Reads as word-reads
 
 abbrev Inv-loop : tie.InvT-loop
-Inv-loop profile labels keys question proof classes part rest₀ n₀ rest n = Sofar (labelsIn profile) (keysIn profile) proof n rest
+Inv-loop profile before keys question proof classes second part rest₀ n₀ rest n = Sofar (singleIn profile) (labelsIn profile) (keysIn profile) proof n rest
 
 abbrev μ-loop : tie.MeasureT-loop
-μ-loop profile labels keys question proof classes part rest₀ n₀ rest n = length rest
+μ-loop profile before keys question proof classes second part rest₀ n₀ rest n = length rest
 
 -- the line that was judged, and what the check is given
 read : (j : tie.After-judge-line Inv-loop μ-loop)
-    → LineJudged (labelsIn (j .before .before .before .before .before .before .before .args .profile .now))
+    → LineJudged (singleIn (j .before .before .before .before .before .before .before .args .profile .now))
+    (labelsIn (j .before .before .before .before .before .before .before .args .profile .now))
     (keysIn (j .before .before .before .before .before .before .before .args .profile .now))
     (j .before .before .before .before .before .before .before .args .proof .now)
     (j .before .before .before .before .before .before .before .args .classes .now)
@@ -42,7 +43,7 @@ record-at-requires c κs = search needs
 
 -- src/check.rt:50:5
 loop-holds : tie.Need-loop-holds Inv-loop μ-loop
-loop-holds c = sofar-start _ _ _ (bytes-from _ (λ i h. c .before .shared-slice-known3 .given i .fits))
+loop-holds c = sofar-start _ _ _ _ (bytes-from _ (λ i h. c .before .shared-slice-known3 .given i .fits))
 
 -- src/check.rt:51:13
 judge-line-requires : tie.Need-judge-line-requires Inv-loop μ-loop
@@ -74,7 +75,7 @@ follows-requires c κs = (part-keys (c .before .before .before .before .before .
 
 -- src/check.rt:57:13
 returns-2 : tie.Need-returns-2 Inv-loop μ-loop
-returns-2 c = sofar-unfollowed (read (c .before .before .before .before .before)) (c .before .before .before .before .if1 .left) (c .before .before .before .word .ensures .0) (given-labels (c .before .before .before .before .before .before .before .before .before .before .before .before .pre)) (part-are (c .before .before .before .before .before .before .before .before .before .before .before .before .pre) (c .before .before .before .before .before .before .before .before .record-at .ensures)) (c .before .follows .ensures) _ (c .if2 .taken)
+returns-2 c = sofar-unfollowed (read (c .before .before .before .before .before)) (c .before .before .before .before .if1 .left) (c .before .before .before .word .ensures .0) (given-labels (c .before .before .before .before .before .before .before .before .before .before .before .before .pre)) (given-single (c .before .before .before .before .before .before .before .before .before .before .before .before .pre)) (part-are (c .before .before .before .before .before .before .before .before .before .before .before .before .pre) (c .before .before .before .before .before .before .before .before .record-at .ensures)) (c .before .follows .ensures) _ (c .if2 .taken)
 
 -- src/check.rt:59:16
 sub-rest : tie.Need-sub-rest Inv-loop μ-loop
@@ -98,7 +99,7 @@ loop-less c = simp (length-take, length-drop) (omega (arith, read (c .before .be
 
 -- src/check.rt:50:5
 loop-again : tie.Need-loop-again Inv-loop μ-loop
-loop-again c = sofar-next (read (c .before .before .before .before .before .before)) (c .before .before .before .before .before .if1 .left) (c .before .before .before .before .word .ensures .0) (given-labels (c .before .before .before .before .before .before .before .before .before .before .before .before .before .pre)) (part-are (c .before .before .before .before .before .before .before .before .before .before .before .before .before .pre) (c .before .before .before .before .before .before .before .before .before .record-at .ensures)) (c .before .before .follows .ensures) (c .before .if2 .left) refl
+loop-again c = sofar-next (read (c .before .before .before .before .before .before)) (c .before .before .before .before .before .if1 .left) (c .before .before .before .before .word .ensures .0) (given-labels (c .before .before .before .before .before .before .before .before .before .before .before .before .before .pre)) (given-single (c .before .before .before .before .before .before .before .before .before .before .before .before .before .pre)) (part-are (c .before .before .before .before .before .before .before .before .before .before .before .before .before .pre) (c .before .before .before .before .before .before .before .before .before .record-at .ensures)) (c .before .before .follows .ensures) (c .before .if2 .left) refl
 
 -- src/check.rt:62:5
 last-is-requires : tie.Need-last-is-requires Inv-loop μ-loop

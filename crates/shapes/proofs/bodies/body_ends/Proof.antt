@@ -1,5 +1,5 @@
 -- `shapes::bodies::body_ends` meets its contract. One law of specs/ for each return.
-use Rattle.shapes.specs.Bodies.{ends-label, ends-key, ends-node, ends-wide, ends-line-short, ends-line, ends-unknown}
+use Rattle.shapes.specs.Bodies.{ends-label, ends-key, ends-node, ends-wide, ends-line-short, ends-line, ends-edition, ends-unknown}
 use borrow.Author.Needs.{needs}
 use Rattle.shapes.proofs.bodies.body_ends.Statement.{statement}
 use Rattle.shapes.proofs.bodies.body_ends.Tie as tie
@@ -50,7 +50,11 @@ returns-6 c = ends-line _ _ (search needs) (search needs) (c .key-shape2 .ensure
 
 -- src/bodies.rt:85:1
 returns-7 : tie.Need-returns-7
-returns-7 c = ends-unknown _ _ (search needs) (search needs) (search needs) (search needs) (search needs)
+returns-7 c = ends-edition _ _ (search needs)
+
+-- src/bodies.rt:90:1
+returns-8 : tie.Need-returns-8
+returns-8 c = ends-unknown _ _ (search needs) (search needs) (search needs) (search needs) (search needs) (search needs)
 
 pub body-ends-spec : {M : Type 1} → statement M
 body-ends-spec =
@@ -67,4 +71,5 @@ body-ends-spec =
     part-key-shape-end
     key-shape-requires-2
     returns-6
-    returns-7)
+    returns-7
+    returns-8)

@@ -10,7 +10,7 @@ use Rattle.tree_nodes.proofs.links.seek.Statement.{statement}
 use Rattle.tree_nodes.proofs.links.seek.Tie as tie
 use Rattle.tree_nodes.proofs.links.seek.Reads as reads
 use Rattle.tree_nodes.proofs.links.seek.Lts as lts
-use Rattle.tree_nodes.proofs.fields.is_attribute.Reads as is-attribute-reads
+use Rattle.shapes.proofs.classes.is_attribute.Reads as is-attribute-reads
 use Rattle.tree_nodes.proofs.fields.label.Reads as label-reads
 use Rattle.tree_nodes.proofs.links.at.Reads as at-reads
 

@@ -8,7 +8,7 @@ use Rattle.shapes.proofs.fields.node_label.Reads as node-label-reads
 use Rattle.shapes.proofs.fields.node_parent.Reads as node-parent-reads
 use Rattle.shapes.proofs.fields.node_value.Reads as node-value-reads
 use Rattle.shapes.proofs.fields.wide.Reads as wide-reads
-use Rattle.tree_nodes.proofs.fields.is_element.Reads as is-element-reads
+use Rattle.shapes.proofs.classes.is_element.Reads as is-element-reads
 use Rattle.tree_records.proofs.nodes.is_label.Reads as is-label-reads
 
 -- src/nodes.rt:81:9

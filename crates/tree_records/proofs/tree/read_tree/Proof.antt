@@ -15,10 +15,10 @@ use Rattle.tree_records.proofs.nodes.judge_node.Reads as judge-node-rea
 use Rattle.tree_records.proofs.tree.tree_limit.Reads as tree-limit-reads
 
 abbrev Inv-loop : tie.InvT-loop
-Inv-loop bytes classes kind rest₀ nodes₀ rest nodes = TreeLoop kind classes bytes nodes rest
+Inv-loop bytes classes second kind rest₀ nodes₀ rest nodes = TreeLoop second kind classes bytes nodes rest
 
 abbrev μ-loop : tie.MeasureT-loop
-μ-loop bytes classes kind rest₀ nodes₀ rest nodes = length rest
+μ-loop bytes classes second kind rest₀ nodes₀ rest nodes = length rest
 
 -- src/tree.rt:35:9
 node-kind-requires : tie.Need-node-kind-requires Inv-loop μ-loop
@@ -30,15 +30,15 @@ tree-limit-requires c κs = tt
 
 -- src/tree.rt:37:9
 returns : tie.Need-returns Inv-loop μ-loop
-returns c = λ labels t. tree-over labels _ (c .before .before .node-kind .ensures) (c .before .tree-limit .ensures) (c .if1 .taken)
+returns c = λ labels t. tree-over _ labels _ (c .before .before .node-kind .ensures) (c .before .tree-limit .ensures) (c .if1 .taken)
 
 -- src/tree.rt:40:9
 returns-2 : tie.Need-returns-2 Inv-loop μ-loop
-returns-2 c = λ labels t. tree-empty labels _ (c .if2 .taken)
+returns-2 c = λ labels t. tree-empty _ labels _ (c .if2 .taken)
 
 -- src/tree.rt:44:5
 loop-holds : tie.Need-loop-holds Inv-loop μ-loop
-loop-holds c = tree-start _ _ _ (c .before .before .before .node-kind .ensures)
+loop-holds c = tree-start _ _ _ _ (c .before .before .before .node-kind .ensures)
 
 -- src/tree.rt:45:13
 judge-node-requires : tie.Need-judge-node-requires Inv-loop μ-loop

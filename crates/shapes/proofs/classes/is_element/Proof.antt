@@ -1,11 +1,11 @@
-use Rattle.tree_nodes.specs.Classes.{text-no-element, attribute-no-element, other-element}
-use mathlib.Core.Path.{sym, _∙_, ap}
+use Rattle.shapes.specs.ClassTests.{text-no-element, attribute-no-element, other-element}
+use mathlib.Core.Path.{sym, _∙_}
 use borrow.Author.Needs.{needs}
-use Rattle.tree_nodes.proofs.fields.is_element.Statement.{statement}
-use Rattle.tree_nodes.proofs.fields.is_element.Tie as tie
-use Rattle.tree_nodes.proofs.fields.is_element.Reads as reads
-use Rattle.tree_nodes.proofs.fields.is_element.Lts as lts
-use Rattle.tree_nodes.proofs.fields.is_attribute.Reads as is-attribute-reads
+use Rattle.shapes.proofs.classes.is_element.Statement.{statement}
+use Rattle.shapes.proofs.classes.is_element.Tie as tie
+use Rattle.shapes.proofs.classes.is_element.Reads as reads
+use Rattle.shapes.proofs.classes.is_element.Lts as lts
+use Rattle.shapes.proofs.classes.is_attribute.Reads as is-attribute-reads
 
 -- src/fields.rt:85:9
 returns : tie.Need-returns

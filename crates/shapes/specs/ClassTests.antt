@@ -1,15 +1,14 @@
 -- The class of a label by the table, as the code's tests find it.
 use Prim.Native.Nat.{ℕ}
-use mathlib.Core.Path.{_≡_, refl, sym, subst}
+use mathlib.Core.Path.{_≡_, refl, sym}
 use mathlib.Core.Bool.{Bool, true, false, cond, true≢false}
 use mathlib.Core.List.{List}
-use native.Mathlib.Omega.{arith}
 use lib.Dec.{eqb}
 use lib.ListN.{getD}
 use borrow.Author.Tests.{eq-eqb, ne-eqb}
 use Rattle.meaning.specs.Limits.{textLabel, fillerAttribute, attributeClass}
 use Rattle.meaning.specs.Paths.{Class, element, attribute, text, isElement, isAttribute}
-use Rattle.tree_nodes.specs.FileTable.{classBy}
+use Rattle.shapes.specs.Classes.{classBy}
 
 module _ (classes : List ℕ) (n : ℕ) where
   pub text-no-attribute : n ≡ textLabel → isAttribute (classBy classes n) ≡ false

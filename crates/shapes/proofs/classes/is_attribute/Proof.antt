@@ -1,13 +1,13 @@
-use Rattle.tree_nodes.specs.Classes.{text-no-attribute, filler-attribute, table-attribute}
+use Rattle.shapes.specs.ClassTests.{text-no-attribute, filler-attribute, table-attribute}
 use mathlib.Core.Path.{sym, _∙_, ap}
 use lib.Dec.{eqb}
 use Prim.Native.Nat.{ℕ}
 use borrow.Author.Needs.{needs}
-use Rattle.tree_nodes.proofs.fields.is_attribute.Statement.{statement}
-use Rattle.tree_nodes.proofs.fields.is_attribute.Tie as tie
-use Rattle.tree_nodes.proofs.fields.is_attribute.Reads as reads
-use Rattle.tree_nodes.proofs.fields.is_attribute.Lts as lts
+use Rattle.shapes.proofs.classes.is_attribute.Statement.{statement}
+use Rattle.shapes.proofs.classes.is_attribute.Tie as tie
+use Rattle.shapes.proofs.classes.is_attribute.Reads as reads
+use Rattle.shapes.proofs.classes.is_attribute.Lts as lts
 use Rattle.shapes.proofs.fields.wide.Reads as wide-reads
 
 -- src/fields.rt:72:9
 returns : tie.Need-returns
