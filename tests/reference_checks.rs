@@ -237,10 +237,13 @@ fn limits(tally: &mut Tally) {
     tally.same("4 key paths", rewrite(&with(keyed(4)), ROOM), Ok(with(keyed(4))));
     tally.refused("5 key paths", rewrite(&with(keyed(5)), ROOM), (5, 1, 2));
     tally.refused("no key path", rewrite(&with(keyed(0)), ROOM), (5, 1, 2));
-    let keys = |count: usize| [labels.clone(), simple_key(vec![2]).repeat(count)].concat();
+    let different = |n: usize| key_record(&Key { context: vec![2; n % 9], target: vec![2; n / 9], paths: vec![vec![]] });
+    let keys = |count: usize| [labels.clone(), (0..count).flat_map(different).collect()].concat();
     tally.same("64 keys", rewrite(&keys(64), ROOM), Ok(keys(64)));
     tally.refused("65 keys", rewrite(&keys(65), ROOM), (7, 1, 66));
     let head = |length: u8| [keys(64), vec![length, 0, 2, 0]].concat();
+    tally.refused("65th equal to the first", rewrite(&[keys(64), different(0)].concat(), ROOM), (7, 1, 66));
+    tally.refused("64th equal to the first", rewrite(&[keys(63), different(0)].concat(), ROOM), (15, 1, 65));
     tally.refused("65th by its head", rewrite(&head(0), ROOM), (7, 1, 66));
     tally.refused("65th by its head, past the end", rewrite(&head(200), ROOM), (7, 1, 66));
     tally.refused("65th without kind", rewrite(&[keys(64), vec![9, 0, 2]].concat(), ROOM), (1, 1, 66));

@@ -31,7 +31,7 @@ const VERDICTS: [(u8, &str); 11] = [
 /// seen, and no other: 11 is retired, a body lookup refuses nothing, 7 never has input 2.
 const REFUSALS: [(&[u8], u32, &[u32]); 9] = [
     (&[REWRITE, DECIDE, LIST], ANSWER, &[14]),
-    (&[REWRITE, INCLUDE, KEEP, CHECK_PROOF, CHECK_TREE, DECIDE, LIST], PROFILE, &[1, 2, 3, 4, 5, 6, 7]),
+    (&[REWRITE, INCLUDE, KEEP, CHECK_PROOF, CHECK_TREE, DECIDE, LIST], PROFILE, &[1, 2, 3, 4, 5, 6, 7, 15]),
     (&[KEEP, CHECK_PROOF, CHECK_TREE, DECIDE], QUESTION, &[1, 2, 4, 5, 6]),
     (&[INCLUDE], QUESTION, &[4, 6]),
     (&[INCLUDE], TREE_OR_PROOF, &[4, 6]),

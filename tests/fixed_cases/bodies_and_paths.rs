@@ -17,8 +17,9 @@ fn bodies(cases: &mut Cases) {
     for (n, wanted) in [(0, "02 01 61"), (1, "06 02 62 2d"), (2, "00 01 02 01 01 06"), (3, "01 00 02 02 02 02 00 01 06")] {
         cases.put_bytes(&format!("body of record {}", n), body(&hex(SMALL), n), "body", &hex(wanted));
     }
-    let keys = key_of(&[], "(_*,(1,{e}))").repeat(64);
-    cases.put_bytes("body of record 63 of 64", body(&keys, 63), "body", &hex("01 00 01 01 01 00"));
+    // Six labels and 58 keys; the last key is number 57, 0111001 in ports and runs.
+    let keys = profile_with(&different(58, "(run,{@id}))"));
+    cases.put_bytes("body of record 63 of 64", body(&keys, 63), "body", &hex("07 02 03 03 03 02 02 03 01 02 01 01 06"));
     let mut all: Vec<u8> = (2..=200).flat_map(|number| label(number, 1, &format!("n{}", number))).collect();
     all.extend(key_of(&[], "(200,(199,{2}))"));
     cases.put_bytes("body of record 198, label 200", body(&all, 198), "body", &joined(&[&[200, 1], b"n200"]));
@@ -37,7 +38,7 @@ fn no_bodies(cases: &mut Cases) {
         ("a byte too few", small[..37].to_vec()),
         ("a label after the keys", joined(&[&small, &label(8, 1, "late")])),
         ("a key with a fault", joined(&[&small, &hex("09 00 02 00 01 c8 00 01 00")])),
-        ("65 keys", joined(&[&small[..15], &hex("0a 00 02 00 00 01 02 01 01 06").repeat(65)])),
+        ("65 keys", profile_with(&different(65, "(run,{@id}))"))),
         ("over its size", joined(&[&small, &vec![0; 16_384]])),
     ] {
         for n in [0, 3, 4] {

@@ -139,9 +139,11 @@ fn steps_from_two_branches(cases: &mut Cases) {
 
 /// 64 keys, of which few are of use, wherever they stand.
 fn many_keys(cases: &mut Cases) {
-    let (idle, question) = ("(_*,(stamp,{@id}))", key("(e,(port.frame,{@seq}))"));
+    let question = key("(e,(port.frame,{@seq}))");
+    let idle = different(64, "(stamp,{@id}))");
+    let all_idle = || idle.iter().map(String::as_str).collect::<Vec<&str>>();
     let at = |places: &[(usize, &'static str)]| {
-        let mut keys = vec![idle; 64];
+        let mut keys = all_idle();
         places.iter().for_each(|&(place, text)| keys[place] = text);
         profile(&keys)
     };
@@ -158,11 +160,11 @@ fn many_keys(cases: &mut Cases) {
     // Only the port leads to the root, so u is the port: 4 nodes, and 3 in each copy.
     cases.put("64 keys, u is the port", decide(&at(&[(63, port)]), &question), "not implied 110");
     let chain: Vec<String> = (0..8).map(|k| format!("({},(run,{{{}}}))", runs(k, ""), runs(7 - k, "@id"))).collect();
-    let mut keys = vec![idle; 64];
+    let mut keys = all_idle();
     (0..8).for_each(|k| keys[63 - 8 * k] = &chain[k]);
     let long = key(&format!("(e,({},{{@id}}))", runs(8, "")));
     cases.put("64 keys, eight steps", decide(&profile(&keys), &long), "implied");
-    keys[63] = idle;
+    keys[63] = &idle[63];
     cases.put("64 keys, the first of eight steps is missing", decide(&profile(&keys), &long), "not implied 396");
 }
 

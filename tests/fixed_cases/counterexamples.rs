@@ -73,17 +73,20 @@ fn equal_branches(cases: &mut Cases) {
 fn lowest_broken_key(cases: &mut Cases) {
     let twins = "0 - 203 -/1 0 2 -/2 1 6 5/3 0 2 -/4 3 6 5";
     let (broken, also, kept) = ("(e,(run,{@id}))", "(e,(_*.@id,{e}))", "(run,(@id,{e}))");
+    // No node of this tree lies so deep: these are kept.
+    let deep = different(63, "(@id,{e}))");
+    let others: Vec<&str> = deep.iter().map(String::as_str).collect();
     for (name, keys, wanted) in [
         ("no key", vec![], "accepted"),
         ("a kept key", vec![kept], "accepted"),
         ("key 0 of one", vec![broken], "refused 12 1 0"),
         ("key 1 of two", vec![kept, broken], "refused 12 1 1"),
         ("keys 0 and 1", vec![also, broken], "refused 12 1 0"),
-        ("keys 1 and 2 of four", vec![kept, also, broken, kept], "refused 12 1 1"),
+        ("keys 1 and 2 of four", vec![kept, also, broken, "(port,(@id,{e}))"], "refused 12 1 1"),
         ("keys 0 and 2", vec![broken, kept, also], "refused 12 1 0"),
-        ("key 63 of 64", [vec![kept; 63], vec![broken]].concat(), "refused 12 1 63"),
-        ("key 31 of 64 and those after it", [vec![kept; 31], vec![broken; 33]].concat(), "refused 12 1 31"),
-        ("64 kept keys", vec![kept; 64], "accepted"),
+        ("key 63 of 64", [&others[..63], &[broken]].concat(), "refused 12 1 63"),
+        ("keys 31 and 32 of 64", [&others[..31], &[broken, also], &others[31..62]].concat(), "refused 12 1 31"),
+        ("64 kept keys", [&others[..63], &[kept]].concat(), "accepted"),
     ] {
         check(cases, &format!("broken: {}", name), &keys, "(e,(run,{e}))", twins, wanted);
         // The same with a question that the tree keeps: 13 only where no key is broken.

@@ -222,7 +222,7 @@ fn rooms_and_refusals(cases: &mut Cases) {
         ("no question", sound.clone(), Vec::new(), "refused 1 2 0"),
         ("two questions", sound.clone(), question.repeat(2), "refused 2 2 1"),
         ("a label that the profile lacks", key_of(&[], "(e,(e,{e}))"), question.clone(), "refused 4 2 0"),
-        ("65 keys", joined(&[&labels(BENCH), &question.repeat(65)]), question.clone(), "refused 7 1 70"),
+        ("65 keys", profile_with(&different(65, "(run,{@id}))")), question.clone(), "refused 7 1 70"),
     ] {
         cases.put(&format!("decide: {}", name), decide(&profile, &asked), wanted);
     }

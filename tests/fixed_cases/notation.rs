@@ -78,9 +78,21 @@ pub fn profile_of(of: Labels, keys: &[&str]) -> Vec<u8> {
     [labels(of), records.concat()].concat()
 }
 
+/// Keys of which no two are equal: the context of each spells its number in seven runs and ports.
+pub fn different(count: usize, rest: &str) -> Vec<String> {
+    let word = |number: usize, bit: usize| if number >> (6 - bit) & 1 == 1 { "port" } else { "run" };
+    let context = |number: usize| (0..7).map(|bit| word(number, bit)).collect::<Vec<&str>>().join(".");
+    (0..count).map(|number| format!("({},{}", context(number), rest)).collect()
+}
+
 /// The bench labels (records 0 to 5), then keys.
 pub fn profile(keys: &[&str]) -> Vec<u8> {
     profile_of(BENCH, keys)
+}
+
+/// The same of keys that were made.
+pub fn profile_with(keys: &[String]) -> Vec<u8> {
+    profile(&keys.iter().map(String::as_str).collect::<Vec<&str>>())
 }
 
 fn two(text: &str, none: u16) -> [u8; 2] {

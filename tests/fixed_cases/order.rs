@@ -131,7 +131,7 @@ fn earlier_record_first(cases: &mut Cases) {
     cases.put("6 in record 6 before 5 and 4 later", rewrite(&profile(&faults)), "refused 6 1 6");
     let cut = joined(&[&profile(&["(e,(run,{run,e}))"]), &[9]]);
     cases.put("5 in record 6 before 1 in record 7", rewrite(&cut), "refused 5 1 6");
-    let many = joined(&[&profile(&["(e,(run,{}))"]), &key("(e,(run,{@id}))").repeat(64)]);
+    let many = profile_with(&[vec!["(e,(run,{}))".to_string()], different(64, "(run,{@id}))")].concat());
     cases.put("5 in record 6 before the 65th key", rewrite(&many), "refused 5 1 6");
     let label_first = joined(&[&label(9, 3, "a"), &hex("05 00 01 00 02")]);
     cases.put("3 in record 0 before 1 in record 1", rewrite(&label_first), "refused 3 1 0");

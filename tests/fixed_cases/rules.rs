@@ -48,7 +48,8 @@ fn citing(cases: &mut Cases) {
         check(cases, &format!("rule 0: {}", name), &[first, second], &[line], wanted);
     }
     check(cases, "rule 0: the profile has no key", &[], &["0 0 - (e,(port.frame,{@seq}))"], "refused 9 3 0");
-    let mut many = vec!["(e,(run,{@id}))"; 63];
+    let others = different(63, "(run,{@id}))");
+    let mut many: Vec<&str> = others.iter().map(String::as_str).collect();
     many.push(first);
     check(cases, "rule 0: key 63 of 64", &many, &["0 63 - (e,(port.frame,{@seq}))"], "accepted");
     check(cases, "rule 0: key 64 of 64", &many, &["0 64 - (e,(port.frame,{@seq}))"], "refused 9 3 0");

@@ -48,12 +48,16 @@ fn fixed_cases() -> Vec<Case> {
     tree_limits(&mut all);
     proof_limits(&mut all);
     editions(&mut all);
+    doubled_keys(&mut all);
     all
 }
 
-/// A random case: of six one is damaged and one spoiled, and some lend another buffer than 01 asks.
+/// A random case: of 20 one has a key twice, of six one is damaged and one spoiled, and some lend another buffer than 01 asks.
 fn whole_or_damaged(random: &mut Random) -> Case {
-    let asked = asked(random);
+    let mut asked = asked(random);
+    if random.chance(1, 20) {
+        double_key(random, &mut asked.profile.keys);
+    }
     let mut next = random_case(random, &asked);
     let input = random.below(3);
     match random.below(6) {
@@ -141,6 +145,12 @@ fn key_of(context: usize, target: usize, paths: &[usize]) -> Key {
     Key { context: vec![2; context], target: vec![4; target], paths: paths.iter().map(|&n| vec![2; n]).collect() }
 }
 
+/// Different keys: the context spells each one's number in labels 2 and 4, the rest is that of the given key.
+fn different_keys(count: usize, rest: &Key) -> Vec<u8> {
+    let spelled = |number: usize| (0..8).map(|bit| if number >> bit & 1 == 1 { 4 } else { 2 }).collect();
+    (0..count).flat_map(|number| key_record(&Key { context: spelled(number), ..rest.clone() })).collect()
+}
+
 fn profile_limits(all: &mut Vec<Case>) {
     let base = labels(3, 0);
     let mut profiles: Vec<Vec<u8>> = vec![Vec::new(), labels(199, 0), labels(200, 0), labels(3, 32), labels(3, 33)];
@@ -151,14 +161,13 @@ fn profile_limits(all: &mut Vec<Case>) {
         profiles.push([base.clone(), key_record(&key_of(1, 1, paths))].concat());
     }
     for count in [63, 64, 65] {
-        let keys = key_record(&key_of(1, 1, &[0])).repeat(count);
-        let whole = [base.clone(), keys].concat();
+        let whole = [base.clone(), different_keys(count, &key_of(0, 1, &[0]))].concat();
         for tail in [&[][..], &[0], &[4, 0, 2], &[4, 0, 2, 0], &[0, 0, 2, 0], &[255, 255, 2, 0], &[4, 0, 1, 0], &[4, 0, 4, 0]] {
             profiles.push([whole.clone(), tail.to_vec()].concat());
         }
     }
     // The longest names and keys come near the size; what is over it is refused whatever it holds.
-    let large = [labels(199, 32), key_record(&key_of(8, 8, &[5, 6, 7, 8])).repeat(64)].concat();
+    let large = [labels(199, 32), different_keys(64, &key_of(0, 8, &[5, 6, 7, 8]))].concat();
     for size in [PROFILE_BYTES - 1, PROFILE_BYTES, PROFILE_BYTES + 1] {
         let mut padded = large.clone();
         padded.resize(size, 9);
@@ -303,7 +312,7 @@ fn proof_limits(all: &mut Vec<Case>) {
 /// The edition's record, rule 10 and attributes of one name at their borders, each in both editions.
 fn editions(all: &mut Vec<Case>) {
     let (base, second) = (labels(3, 0), edition_record(SECOND_EDITION));
-    let keys = key_record(&key_of(1, 1, &[0])).repeat(65);
+    let keys = different_keys(65, &key_of(0, 1, &[0]));
     let mut profiles = vec![second.clone(), second.repeat(2), [base.clone(), second.clone()].concat()];
     for byte in [0, 1, 2, 3, 255] {
         profiles.push([edition_record(byte), base.clone()].concat());
@@ -321,6 +330,40 @@ fn editions(all: &mut Vec<Case>) {
     for profile in [base.clone(), [second, base].concat()] {
         repeated_attributes(all, &profile);
         tenth_rule(all, &profile);
+    }
+}
+
+/// One key twice: next to each other and apart, early, late and one too many, before and behind other faults; each in both editions.
+fn doubled_keys(all: &mut Vec<Case>) {
+    let base = labels(3, 0);
+    let [a, b, c] = [1, 2, 3].map(|symbols| key_record(&key_of(symbols, 1, &[0])));
+    let full = different_keys(64, &key_of(0, 1, &[0]));
+    let one = full.len() / 64;
+    let (early, late) = (&full[..one], &full[62 * one..63 * one]);
+    let fault = key_record(&key_of(9, 1, &[0]));
+    for keys in [
+        vec![&a, &a],
+        vec![&a, &b, &a],
+        vec![&a, &b, &b, &a],
+        vec![&a, &b, &c, &c, &b],
+        vec![&a, &fault, &a],
+        vec![&a, &a, &fault],
+    ] {
+        let keys: Vec<u8> = keys.into_iter().flatten().copied().collect();
+        for tail in [&[][..], &[9], &[4, 0, 1, 0], &fault] {
+            in_both_editions(all, &[&base, &keys[..], tail].concat());
+        }
+    }
+    for again in [early, late] {
+        for before in [1, 63, 64] {
+            in_both_editions(all, &[&base, &full[..before * one], again].concat());
+        }
+    }
+}
+
+fn in_both_editions(all: &mut Vec<Case>, profile: &[u8]) {
+    for front in [Vec::new(), edition_record(SECOND_EDITION)] {
+        every_operation(all, &[&front, profile].concat());
     }
 }
 

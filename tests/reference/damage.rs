@@ -173,6 +173,12 @@ fn spoiled_edition(random: &mut Random, bytes: &[u8], bounds: &[usize], chosen: 
     out
 }
 
+/// A key record once more, behind itself or behind any record after it.
+fn doubled_key(random: &mut Random, bytes: &[u8], bounds: &[usize], chosen: usize) -> Vec<u8> {
+    let behind = random.one_of(&bounds[chosen + 1..]);
+    [&bytes[..behind], &bytes[bounds[chosen]..bounds[chosen + 1]], &bytes[behind..]].concat()
+}
+
 /// A profile, question, tree or proof with one or two faults inside its records.
 pub fn spoiled(random: &mut Random, world: &World, bytes: &[u8]) -> Vec<u8> {
     let mut out = bytes.to_vec();
@@ -194,6 +200,9 @@ fn spoiled_once(random: &mut Random, world: &World, bytes: &[u8]) -> Vec<u8> {
     let (kind, body) = (bytes[from + 2] as u16, &bytes[from + 4..to]);
     if kind == EDITION_KIND {
         return spoiled_edition(random, bytes, &bounds, chosen);
+    }
+    if kind == KEY_KIND && random.chance(1, 8) {
+        return doubled_key(random, bytes, &bounds, chosen);
     }
     let new = match kind {
         LABEL_KIND if body.len() > 2 => {

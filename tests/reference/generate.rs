@@ -214,16 +214,40 @@ pub struct Asked {
     pub question: Key,
 }
 
+/// Now and then as many keys as a profile may have, else few; no two of them are equal.
+fn keys_of(random: &mut Random, world: &World, question: &Key) -> Vec<Key> {
+    let rungs = if random.chance(1, 2) { ladder(random, world, question) } else { Vec::new() };
+    let mut keys: Vec<Key> = Vec::new();
+    for rung in rungs {
+        if !keys.contains(&rung) {
+            keys.push(rung);
+        }
+    }
+    // Over few labels some of the keys drawn are equal: a full profile takes more of them.
+    let drawn = if random.chance(1, 40) { 4 * PROFILE_KEYS } else { random.below(4) };
+    for _ in 0..drawn {
+        let at = random.below(keys.len() + 1);
+        let next = if random.chance(3, 4) { key_near(random, world, question) } else { key(random, world) };
+        if keys.len() < PROFILE_KEYS && !keys.contains(&next) {
+            keys.insert(at, next);
+        }
+    }
+    keys
+}
+
+/// Writes one of the keys once more, anywhere behind it.
+pub fn double_key(random: &mut Random, keys: &mut Vec<Key>) {
+    if !keys.is_empty() {
+        let first = random.below(keys.len());
+        let second = first + 1 + random.below(keys.len() - first);
+        keys.insert(second, keys[first].clone());
+    }
+}
+
 pub fn asked(random: &mut Random) -> Asked {
     let world = world(random);
     let question = key(random, &world);
-    let mut keys = if random.chance(1, 2) { ladder(random, &world, &question) } else { Vec::new() };
-    let more = if random.chance(1, 40) { PROFILE_KEYS - keys.len() } else { random.below(4) };
-    for _ in 0..more {
-        let at = random.below(keys.len() + 1);
-        let next = if random.chance(3, 4) { key_near(random, &world, &question) } else { key(random, &world) };
-        keys.insert(at, next);
-    }
+    let keys = keys_of(random, &world, &question);
     let profile = Profile { edition: world.edition, labels: world.labels.clone(), keys, classes: world.classes.clone() };
     Asked { world, profile, question }
 }

@@ -35,7 +35,7 @@ static WRONG: AtomicUsize = AtomicUsize::new(0);
 
 /// What each wrong line does, by its number less one, and the operations of whose answers in the
 /// stream of seed 1 it changes some.
-pub const WRONG_LINES: [(&[u8], &str); 18] = [
+pub const WRONG_LINES: [(&[u8], &str); 19] = [
     (&[INCLUDE, KEEP, CHECK_PROOF, CHECK_TREE, DECIDE], "membership: an any-path consumes at least one label"),
     (&[INCLUDE], "inclusion: 201 and 202 are left out of the labels"),
     (&[KEEP, CHECK_TREE], "value equality: attributes and other children are one list"),
@@ -54,6 +54,7 @@ pub const WRONG_LINES: [(&[u8], &str); 18] = [
     (&[CHECK_PROOF], "rule 10 in edition 1"),
     (&[KEEP, CHECK_TREE, LIST], "16 only for declared labels: 202 may be repeated"),
     (&[DECIDE], "pattern of edition 2: an attribute steps to its parent only if that is q"),
+    (&[REWRITE, BODY, INCLUDE, KEEP, CHECK_PROOF, CHECK_TREE, DECIDE, LIST], "15 looks at the key before alone"),
 ];
 
 pub fn choose_wrong_line(number: usize) {

@@ -211,6 +211,14 @@ fn has_label_fault(label: &Label, before: &[Label]) -> bool {
         || before.iter().any(|other| other.name == label.name)
 }
 
+/// "A profile with two equal keys is to be refused at the later one." Key paths stand in order, so equal keys have equal paths.
+fn stands_before(key: &Key, before: &[Key]) -> bool {
+    if wrong(19) {
+        return before.last() == Some(key);
+    }
+    before.contains(key)
+}
+
 /// "A profile of edition 2 begins with a record of kind 6, one byte, 2; without it the profile is edition 1": how many records
 /// that takes, none or one, and what stands behind it.
 fn read_edition(bytes: &[u8]) -> Result<(usize, &[u8]), Refusal> {
@@ -251,6 +259,9 @@ pub fn read_profile(bytes: &[u8]) -> Result<Profile, Refusal> {
                 let key = read_key(body).unwrap();
                 if let Some(number) = key_fault(&key, KEY_SIZES, &profile.classes) {
                     return refuse(number, PROFILE, record);
+                }
+                if stands_before(&key, &profile.keys) {
+                    return refuse(15, PROFILE, record);
                 }
                 profile.keys.push(key);
             }

@@ -26,6 +26,11 @@ pub fn order(tally: &mut Tally) {
     long[0] += 1;
     long.push(0);
     tally.refused("1 before 4", of(long), (1, 1, 2));
+    let (one, other) = (key(&[], &[2], &[&[2]]), key(&[2], &[], &[&[2]]));
+    tally.refused("15", of([one.clone(), one.clone()].concat()), (15, 1, 3));
+    tally.refused("15, not next to each other", of([one.clone(), other.clone(), one.clone()].concat()), (15, 1, 4));
+    tally.refused("15 before the next record", of([one.clone(), one.clone(), vec![9]].concat()), (15, 1, 3));
+    tally.same("C.T in two ways", of([one, other].concat()).is_ok(), true);
     tally.refused("label after a key", of([key(&[], &[], &[&[]]), hex(LA)].concat()), (2, 1, 3));
     tally.refused("2 before 3", of([key(&[], &[], &[&[]]), hex("06 00 01 00 ff 09")].concat()), (2, 1, 3));
     tally.refused("1 before 2", of([key(&[], &[], &[&[]]), hex("05 00 01 00 ff")].concat()), (1, 1, 3));

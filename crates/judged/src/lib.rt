@@ -19,4 +19,6 @@ pub const TOO_LARGE: usize = 7;
 
 pub const BAD_NODE: usize = 8;
 
+pub const KEY_TWICE: usize = 15;
+
 pub const REPEATED: usize = 16;

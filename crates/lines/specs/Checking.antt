@@ -28,6 +28,7 @@ use Rattle.theory_records.specs.Judged.{LineAccepted, line-accepted}
 use Rattle.theory_records.specs.Encodings.{ends-line, ends-key, bytes-body}
 use Rattle.theory_records.specs.Heads.{body-length}
 use Rattle.theory_records.specs.HeadTests.{body-part}
+use Rattle.theory_records.specs.KeyPlaces.{keysFrom, KeyRecords, profile-keys-are, profile-key-records}
 use Rattle.theory_records.specs.KeyBodies.{key-in-written}
 use Rattle.theory_records.specs.Profiles.{each-more, length-more, accepted-labels}
 use Rattle.theory_records.specs.Questions.{LinesAt, lines-long, QuestionSound, question-accepts}
@@ -39,8 +40,7 @@ use Rattle.records.specs.Agree.{line-agrees}
 use Rattle.judged.specs.declared.Judged.{Judged}
 use Rattle.judged.specs.declared.Judged.the-variants.{Sound, Refused}
 use Rattle.rule_tests.specs.Parts.{line-key}
-use Rattle.lines.specs.Premises.{keysFrom, linesFrom, KeyRecords, LineRecord, Earlier, LineBody, line-at, line-none}
-use Rattle.lines.specs.ProfileKeys.{profile-keys-are, profile-key-records}
+use Rattle.lines.specs.Premises.{linesFrom, LineRecord, Earlier, LineBody, line-at, line-none}
 use Rattle.lines.specs.ProofLines.{lines-more}
 use Rattle.lines.specs.Following.{still-below, new-did-follow, below-more, told-follows, told-not}
 

@@ -1,5 +1,4 @@
 pub mod Premises
-pub mod ProfileKeys
 pub mod ProofLines
 pub mod Following
 pub mod Checking

@@ -21,31 +21,20 @@ use Rattle.theory_lines.specs.Cuts.{contextTargetTest}
 use Rattle.theory_lines.specs.Interactions.{interactionTest}
 use Rattle.theory_lines.specs.LineTest.{sameKey, same-key-eq, eq-same-key, onPremise, unused, ruleTest, followsTest}
 use Rattle.theory_records.specs.KeyBodies.{key-in-written}
+use Rattle.theory_records.specs.KeyPlaces.{keysFrom, KeyRecord, key-shape, KeyRecords, key-at, key-none}
 use Rattle.records.specs.Keys.{line-key-part}
 use Rattle.rule_tests.specs.Parts.{LineKey, LineKeys}
 
--- so many keys from here on, so many lines
-unfoldable pub keysFrom : ℕ → List ℕ → List Key
-keysFrom zero l = []
-keysFrom (suc n) l = keyIn (recordBody l) ∷ keysFrom n (drop (recordLength l) l)
-
+-- so many lines from here on
 unfoldable pub linesFrom : ℕ → List ℕ → List Line
 linesFrom zero l = []
 linesFrom (suc n) l = readLine (recordBody l) ∷ linesFrom n (drop (recordLength l) l)
 
--- a key record that was read; a line that was read
-pub record KeyRecord (l : List ℕ) : Type 0 where
-  pub long : 4 ≤ recordLength l
-  pub within : recordLength l ≤ length l
-  pub shape : isSome (readKey (recordBody l)) ≡ true
-
+-- a line that was read
 pub record LineRecord (l : List ℕ) : Type 0 where
   pub long : 9 ≤ recordLength l
   pub within : recordLength l ≤ length l
   pub key : LineKey (drop 5 (recordBody l))
-
-pub record KeyRecords (n : ℕ) (l : List ℕ) : Type 0 where
-  pub each : (i : ℕ) → i < n → KeyRecord (recordsFrom i l)
 
 pub record Earlier (n : ℕ) (l : List ℕ) : Type 0 where
   pub each : (i : ℕ) → i < n → LineRecord (recordsFrom i l)
@@ -54,18 +43,6 @@ pub record Earlier (n : ℕ) (l : List ℕ) : Type 0 where
 pub record LineBody (body : List ℕ) : Type 0 where
   pub long : 5 ≤ length body
   pub key : LineKey (drop 5 body)
-
-pub key-at : (n i : ℕ) (l : List ℕ) → i < n → getElem? (keysFrom n l) i ≡ some (keyIn (recordBody (recordsFrom i l)))
-unfolding keysFrom recordsFrom
-key-at zero i l h = absurd (omega arith)
-key-at (suc n) zero l h = refl
-key-at (suc n) (suc i) l h = key-at n i (drop (recordLength l) l) (omega arith)
-
-pub key-none : (n i : ℕ) (l : List ℕ) → n ≤ i → getElem? (keysFrom n l) i ≡ none
-unfolding keysFrom
-key-none zero i l h = refl
-key-none (suc n) zero l h = absurd (omega arith)
-key-none (suc n) (suc i) l h = key-none n i (drop (recordLength l) l) (omega arith)
 
 pub line-at : (n i : ℕ) (l : List ℕ) → i < n → getElem? (lineKeys (linesFrom n l)) i ≡ some (keyIn (drop 5 (recordBody (recordsFrom i l))))
 unfolding linesFrom recordsFrom lineKeys readLine
@@ -118,7 +95,7 @@ module _ (keys first : ℕ) (part k : List ℕ) where
   unfolding cited onPremise recordBody recordLength
   cites-some h e i {rest} q f g =
       g ∙ ap (λ (l : List ℕ). same l k) (body rest (recordsFrom first part) q f)
-      ∙ bodies-same (recordBody (recordsFrom first part)) k (h .each first i .shape) e
+      ∙ bodies-same (recordBody (recordsFrom first part)) k (key-shape (h .each first i)) e
       ∙ rw (key-at keys first part i)
     where
       body : (l m : List ℕ) → l ≡ m → {n : ℕ} → n ≡ word l 0 → take (n - 4) (drop 4 l) ≡ recordBody m
@@ -127,15 +104,15 @@ module _ (keys first : ℕ) (part k : List ℕ) where
 -- where a record stands, its length and its end
 module _ {l : List ℕ} (r : KeyRecord l) {rest : List ℕ} (e : rest ≡ l) where
   pub key-head : 0 + 1 < length rest
-  key-head = omega (arith, r .long, r .within, ap length e)
+  key-head = omega (arith, r .isWhole .long, r .isWhole .within, ap length e)
 
   pub key-start : {end : ℕ} → end ≡ word rest 0 → 4 ≤ end
   unfolding recordLength
-  key-start f = omega (arith, r .long, ap (λ (m : List ℕ). word m 0) e)
+  key-start f = omega (arith, r .isWhole .long, ap (λ (m : List ℕ). word m 0) e)
 
   pub key-end : {end : ℕ} → end ≡ word rest 0 → end ≤ length rest
   unfolding recordLength
-  key-end f = omega (arith, r .within, ap (λ (m : List ℕ). word m 0) e, ap length e)
+  key-end f = omega (arith, r .isWhole .within, ap (λ (m : List ℕ). word m 0) e, ap length e)
 
 module _ {l : List ℕ} (r : LineRecord l) {rest : List ℕ} (e : rest ≡ l) where
   pub line-head : 0 + 1 < length rest

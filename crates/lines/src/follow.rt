@@ -29,7 +29,8 @@ ghost use Rattle.shapes.specs.Classes.{classBy};
 ghost use Rattle.theory_lines.specs.LineTest.{followsTest};
 ghost use Rattle.theory_lines.specs.EditionTest.{tenthTest, followsInTest};
 ghost use Rattle.rule_tests.specs.Parts.{LineKey, LineKeys};
-ghost use Rattle.lines.specs.Premises.{keysFrom, linesFrom, KeyRecords, LineRecord, Earlier, LineBody, oneTest, cited, byOne, byTwo};
+ghost use Rattle.theory_records.specs.KeyPlaces.{keysFrom, KeyRecords};
+ghost use Rattle.lines.specs.Premises.{linesFrom, LineRecord, Earlier, LineBody, oneTest, cited, byOne, byTwo};
 
 // "an unused premise field is 65535"
 const NO_NUMBER: usize = 65535;

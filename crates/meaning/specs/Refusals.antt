@@ -1,5 +1,5 @@
 -- The refusal table: document 01, "Refusal numbers". Each record is judged by an ordered list of numbers and tests, and the first test
--- that holds gives the number: "in one record 7, then 1, 2, 3, 4, 5, 6, 8, 9".
+-- that holds gives the number: "in one record 7, then 1, 2, 3, 4, 5, 6, 8, 9"; 15 stands "after 6 within the record and before 8".
 use Prim.Native.Nat.{ℕ, zero, suc, _-_}
 use mathlib.Core.Bool.{Bool, true, false, cond, _&&_, _||_, not}
 use mathlib.Core.List.{List, [], _∷_, _++_}
@@ -12,7 +12,7 @@ use Rattle.meaning.specs.Paths.{Label, declared, isLabel, classOf, singl
 use Rattle.meaning.specs.Trees.{Node, noNode}
 use Rattle.meaning.specs.Keys.{Key}
 use Rattle.meaning.specs.Rules.{Line}
-use Rattle.meaning.specs.Records.{recordLength, recordKind, recordBody, bodyEnds, readLabel, keyIn, readNode, readLine}
+use Rattle.meaning.specs.Records.{recordLength, recordKind, recordBody, bodyEnds, readLabel, keyIn, keyBody, readNode, readLine}
 
 -- "A refusal returns number, input .. and record number". Number 0 stands for no refusal
 pub record Refusal : Type 0 where
@@ -85,6 +85,14 @@ unfoldable pub keyTests : List Label → KeyLimits → Key → List (ℕ × Bool
 keyTests labels limits k =
     (4, not (goodSymbols labels limits k)) ∷ (5, not (goodSet limits k)) ∷ (6, not (allValid labels k)) ∷ []
 
+-- 15: "A profile with two equal keys is to be refused at the later one": one of the keys before has its body. A question and a proof line
+-- may repeat a key
+unfoldable pub keyTwice : List Key → Key → Bool
+keyTwice keys k = any (λ (m : Key). same (keyBody m) (keyBody k)) keys
+
+unfoldable pub profileKeyTests : List Label → List Key → Key → List (ℕ × Bool)
+profileKeyTests labels keys k = keyTests labels inProfile k ++ ((15, keyTwice keys k) ∷ [])
+
 -- "In each input its size, then records from the front": what was read before a refusal, its number (0: none) and the record's
 pub record Walked (S : Type 0) : Type 0 where
   pub number : ℕ
@@ -119,7 +127,7 @@ unfoldable pub profileTests : Profile → List ℕ → List (ℕ × Bool)
 profileTests p l =
     (7, tooMany Limits.keyKind Limits.profileKeys (length (p .keys)) l) ∷ (1, not (whole l)) ∷ (2, not (inProfileOrder p (recordKind l)))
     ∷ cond (eqb (recordKind l) Limits.labelKind) ((3, not (goodLabel (p .labels) (readLabel (recordBody l)))) ∷ [])
-    (keyTests (p .labels) inProfile (keyIn (recordBody l)))
+    (profileKeyTests (p .labels) (p .keys) (keyIn (recordBody l)))
 
 unfoldable pub profileNext : Profile → List ℕ → Profile
 profileNext p l =

@@ -1,19 +1,19 @@
 -- Judged by the class table or by the labels that it says, a record gives the same number.
-use Prim.Native.Nat.{ℕ, zero, suc, _+_, _-_, _≤_, _<_}
-use mathlib.Core.Path.{_≡_, refl, sym, subst, ap, _∙_}
+use Prim.Native.Nat.{ℕ, _+_, _-_}
+use mathlib.Core.Path.{_≡_, refl, ap, _∙_}
 use mathlib.Core.Bool.{Bool, true, false, cond, _&&_, _||_, not}
-use mathlib.Core.List.{List, [], _∷_}
+use mathlib.Core.List.{List, [], _∷_, _++_}
 use native.Mathlib.Omega.{arith}
-use borrow.Author.Tests.{eqb-true, eqb-false, eq-eqb, ne-eqb, lt-leb}
-use lib.Dec.{eqb, leb}
+use borrow.Author.Tests.{eqb-true}
+use lib.Dec.{eqb}
 use lib.ListN.{length, drop}
 use Rattle.meaning.specs.Limits.{KeyLimits, inProfile, inProof}
 use Rattle.meaning.specs.Lists.{isEmpty}
 use Rattle.meaning.specs.Paths.{Label}
 use Rattle.meaning.specs.Keys.{Key}
 use Rattle.meaning.specs.Rules.{Line}
-use Rattle.meaning.specs.Records.{recordKind, recordBody, readLabel, keyIn, readKey, isSome, readLine}
-use Rattle.meaning.specs.Refusals.{firstOf, tooMany, whole, goodLabel, keyTests, Profile, profileTests, inProfileOrder, questionTests, lineTests}
+use Rattle.meaning.specs.Records.{recordKind, recordBody, readLabel, keyIn, readLine}
+use Rattle.meaning.specs.Refusals.{firstOf, tooMany, whole, goodLabel, keyTests, keyTwice, profileKeyTests, Profile, profileTests, inProfileOrder, questionTests, lineTests}
 use Rattle.shapes.specs.Classes.{Tabled, keyTestsBy}
 use Rattle.shapes.specs.Tables.{bytes-key, tests-tabled}
 use Rattle.theory_records.specs.Bytes.{Bytes, bytes-at, bytes-drop}
@@ -67,27 +67,32 @@ module _ {labels : List Label} {classes : List ℕ} (tabled : Tabled labels clas
       go true w false q = refl
       go true w true q = ap firstOf (key-agrees inProfile (whole-says l w) (eqb-true _ _ q))
 
-  -- a record of a profile where no label can stand any more
-  pub key-record-agrees : (p : Profile) → p .labels ≡ labels → (keys : ℕ) → keys ≡ length (p .keys) → (keys ≡ 0 → isLabelRecord l ≡ false)
-      → firstOf (keyRecordTestsBy classes keys l) ≡ firstOf (profileTests p l)
-  unfolding keyRecordTestsBy headTests profileTests inProfileOrder firstOf
-  key-record-agrees p same keys e none =
-      rw (← e, same) (go (tooMany 2 64 keys l) (whole l) refl (eqb (recordKind l) 2) refl (eqb (recordKind l) 1) refl (isEmpty (p .keys)) refl)
+  -- a record of a profile where no label can stand any more, behind these keys
+  pub key-record-agrees : (p : Profile) → p .labels ≡ labels → (before : List Key) → p .keys ≡ before → (keys : ℕ) → keys ≡ length before
+      → (keys ≡ 0 → isLabelRecord l ≡ false)
+      → firstOf (keyRecordTestsBy classes keys l ++ ((15, keyTwice before (keyIn (recordBody l))) ∷ [])) ≡ firstOf (profileTests p l)
+  unfolding keyRecordTestsBy headTests profileTests inProfileOrder profileKeyTests firstOf
+  key-record-agrees p same before are keys e none =
+      rw (same, are, ← e) (go (tooMany 2 64 keys l) (whole l) refl (eqb (recordKind l) 2) refl (eqb (recordKind l) 1) refl (isEmpty before) refl)
     where
-      not-here : whole l ≡ true → eqb (recordKind l) 1 ≡ true → isEmpty (p .keys) ≡ true → ⊥
+      twice : List (ℕ × Bool)
+      twice = (15, keyTwice before (keyIn (recordBody l))) ∷ []
+
+      not-here : whole l ≡ true → eqb (recordKind l) 1 ≡ true → isEmpty before ≡ true → ⊥
       not-here w k x =
-          let zero-keys : keys ≡ 0 = e ∙ ap length (empty-says (p .keys) x) in
+          let zero-keys : keys ≡ 0 = e ∙ ap length (empty-says before x) in
           never (isLabelRecord l) (unfold isLabelRecord in and-true w k) (none zero-keys)
 
       go : (a b : Bool) → whole l ≡ b → (k : Bool) → eqb (recordKind l) 2 ≡ k → (m : Bool) → eqb (recordKind l) 1 ≡ m
-          → (x : Bool) → isEmpty (p .keys) ≡ x
-          → cond a 7 (cond (not b) 1 (cond (not k) 2 (firstOf (keyTestsBy classes inProfile (keyIn (recordBody l))))))
+          → (x : Bool) → isEmpty before ≡ x
+          → cond a 7 (cond (not b) 1 (cond (not k) 2 (firstOf (keyTestsBy classes inProfile (keyIn (recordBody l)) ++ twice))))
           ≡ cond a 7 (cond (not b) 1 (cond (not (m && x || k)) 2
-          (firstOf (cond m ((3, not (goodLabel labels (readLabel (recordBody l)))) ∷ []) (keyTests labels inProfile (keyIn (recordBody l)))))))
+          (firstOf (cond m ((3, not (goodLabel labels (readLabel (recordBody l)))) ∷ []) (keyTests labels inProfile (keyIn (recordBody l)) ++ twice)))))
       go true b w k q m r x z = refl
       go false false w k q m r x z = refl
       go false true w true q true r x z = absurd (two-kinds (recordKind l) q r)
-      go false true w true q false r x z = ap firstOf (key-agrees inProfile (whole-says l w) (eqb-true _ _ q))
+      go false true w true q false r x z =
+          ap (λ (tests : List (ℕ × Bool)). firstOf (tests ++ twice)) (key-agrees inProfile (whole-says l w) (eqb-true _ _ q))
       go false true w false q true r true z = absurd (not-here w r z)
       go false true w false q true r false z = refl
       go false true w false q false r x z = refl

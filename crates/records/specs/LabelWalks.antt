@@ -6,18 +6,18 @@ use mathlib.Core.List.{List, [], _∷_, _++_}
 use native.Mathlib.Omega.{arith}
 use native.Mathlib.Nat.{add-zero, add-suc}
 use native.Mathlib.Numerals.{add-one}
-use borrow.Author.Tests.{eqb-true, eqb-false, eq-eqb, ne-eqb, ltb-true, lt-ltb, le-ltb, leb-true, not-true, not-false}
+use borrow.Author.Tests.{eqb-true, eqb-false, eq-eqb, ne-eqb, ltb-true, lt-ltb, leb-true, not-true, not-false}
 use borrow.Rule.Slice.PartAt.{part-to-end}
 use lib.Dec.{eqb, ltb, leb}
 use lib.ListN.{length, getD, take, drop, set, length-drop, length-set, replicate, length-replicate}
-use lib.Seq.{getD-set-same, getD-set-other, getD-drop, getD-take}
+use lib.Seq.{getD-set-same, getD-set-other}
 use Rattle.meaning.specs.Lists.{every, any, same, isEmpty}
 use Rattle.meaning.specs.Paths.{Label, Class, element, attribute, isAttribute, declared, declaredClass}
 use Rattle.meaning.specs.Records.{word, recordLength, recordKind, recordBody, readLabel}
-use Rattle.meaning.specs.Refusals.{inProfileOrder, Walked, walk, firstOf, whole, isName, goodLabel, Profile, noProfile, profileTests, profileNext}
+use Rattle.meaning.specs.Refusals.{inProfileOrder, walk, firstOf, whole, isName, goodLabel, Profile, noProfile, profileTests, profileNext}
 use Rattle.meaning.specs.Operations.{recordsFrom}
 use Rattle.shapes.specs.Classes.{Tabled, entryOf}
-use Rattle.theory_records.specs.Tests.{both, either, never}
+use Rattle.theory_records.specs.Tests.{both, never}
 use Rattle.theory_records.specs.Heads.{Whole, whole-says, body-length}
 use Rattle.theory_records.specs.HeadTests.{body-part}
 use Rattle.theory_records.specs.Encodings.{ends-label}
@@ -26,7 +26,8 @@ use Rattle.theory_records.specs.TreeFiles.{body-at}
 use Rattle.theory_records.specs.Judged.{profile-label-passes, room-left}
 use Rattle.theory_records.specs.Profiles.{profile-long, next-label}
 use Rattle.theory_records.specs.Walks.{walk-step, walk-stop}
-use Rattle.records.specs.Labels.{labelsAt, LabelRecords, none, more, Highest, isClass}
+use Rattle.records.specs.Repeats.{Standing, none, standing-more}
+use Rattle.records.specs.Labels.{labelsAt, Highest, isClass}
 use Rattle.records.specs.Agree.{isLabelRecord}
 use Rattle.records.specs.KeyWalks.{labelled}
 
@@ -35,12 +36,6 @@ pub labels-more : (n : ℕ) (l : List ℕ) → labelsAt (suc n) l ≡ labelsAt n
 unfolding labelsAt recordsFrom
 labels-more zero l = refl
 labels-more (suc n) l = ap {B = List Label} (λ (k : List Label). readLabel (recordBody l) ∷ k) (labels-more n (drop (recordLength l) l))
-
-pub records-more : {n : ℕ} {l : List ℕ} → LabelRecords n l → 6 ≤ recordLength (recordsFrom n l) → recordLength (recordsFrom n l) ≤ length (recordsFrom n l)
-    → LabelRecords (suc n) l
-unfolding recordsFrom
-records-more none a b = more a b none
-records-more (more c d r) a b = more c d (records-more r a b)
 
 every-more : {A : Type 0} (f : A → Bool) (xs : List A) (x : A) → every f (xs ++ (x ∷ [])) ≡ (every f xs && f x)
 unfolding every
@@ -174,7 +169,7 @@ tabled-more labels x classes t size g = record { entry = λ n h. go n h (eqb (x 
 -- The loop stands after so many labels, the first of which is record number `first`
 pub record LabelLoop (first : ℕ) (bytes classes rest : List ℕ) (labels last : ℕ) : Type 0 where
   pub size : 6 * labels + length rest ≤ length bytes
-  pub records : LabelRecords labels bytes
+  pub records : Standing 6 labels bytes
   pub highest : Highest (labelsAt labels bytes) last
   pub wide : length classes ≡ 256
   pub table : Tabled (labelsAt labels bytes) classes
@@ -304,7 +299,7 @@ module _ {first : ℕ} {bytes classes rest : List ℕ} {labels last : ℕ} (loop
           record {
             size = omega (arith, loop .size, room, its .within, same-length, length-drop (recordLength rest) rest);
             records =
-                records-more (loop .records) (subst (λ (r : List ℕ). 6 ≤ recordLength r) (loop .here) room)
+                standing-more (loop .records) (subst (λ (r : List ℕ). 6 ≤ recordLength r) (loop .here) room)
                 (subst (λ (r : List ℕ). recordLength r ≤ length r) (loop .here) (its .isWhole .within));
             highest =
                 subst (λ (ls : List Label). Highest ls number) (sym grown)

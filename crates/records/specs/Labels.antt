@@ -1,31 +1,25 @@
 -- Label records read from the front of a profile, and refusal 3 return by return.
 use Prim.Native.Nat.{ℕ, zero, suc, _+_, _-_, _≤_, _<_}
-use mathlib.Core.Path.{_≡_, refl, sym, subst, ap, _∙_}
+use mathlib.Core.Path.{_≡_, refl, sym, ap, ap₂, _∙_}
 use mathlib.Core.Bool.{Bool, true, false, _&&_, _||_, not}
-use mathlib.Core.List.{List, [], _∷_, _++_}
+use mathlib.Core.List.{List, [], _∷_}
 use native.Mathlib.Omega.{arith}
 use native.Mathlib.Nat.{sub-zero, zero-sub, suc-sub-suc}
-use native.Mathlib.Numerals.{sub-one}
-use borrow.Author.Tests.{le-leb, lt-leb, lt-ltb, le-ltb, eq-eqb, ne-eqb, not-true, not-false}
+use borrow.Author.Tests.{le-leb, lt-leb, lt-ltb, le-ltb, ne-eqb, not-true, not-false}
 use borrow.Rule.Slice.PartAt.{part-to-end}
-use lib.Dec.{leb, ltb, eqb}
+use lib.Dec.{ltb, eqb}
 use lib.ListN.{length, getD, take, drop}
 use lib.Seq.{drop-drop, take-nil}
 use Rattle.meaning.specs.Lists.{every, any, same}
 use Rattle.meaning.specs.Paths.{Label}
-use Rattle.meaning.specs.Records.{word, recordLength, recordBody, readLabel}
+use Rattle.meaning.specs.Records.{recordLength, recordBody, readLabel}
 use Rattle.meaning.specs.Refusals.{isName, goodLabel}
-use Rattle.meaning.specs.Operations.{recordsFrom}
+use Rattle.records.specs.Repeats.{anyRecord}
 
 -- the labels of the first records
 unfoldable pub labelsAt : ℕ → List ℕ → List Label
 labelsAt zero l = []
 labelsAt (suc n) l = readLabel (recordBody l) ∷ labelsAt n (drop (recordLength l) l)
-
--- so many records stand at the front, each with room for number, class and name
-pub data LabelRecords : ℕ → List ℕ → Type 0 where
-  none : {l : List ℕ} → LabelRecords 0 l
-  more : {n : ℕ} {l : List ℕ} → 6 ≤ recordLength l → recordLength l ≤ length l → LabelRecords n (drop (recordLength l) l) → LabelRecords (suc n) l
 
 unfoldable pub nameUsed : List Label → List ℕ → Bool
 nameUsed labels name = any (λ (k : Label). same (k .name) name) labels
@@ -54,62 +48,11 @@ name-part l =
     less : (n : ℕ) → n - 4 - 2 ≡ n - 6
     less n = omega arith
 
--- the front record of some
-pub record Front (l : List ℕ) : Type 0 where
-  pub room : 6 ≤ recordLength l
-  pub within : recordLength l ≤ length l
-
-pub front-fits : {n : ℕ} {l : List ℕ} → LabelRecords n l → 0 < n → Front l
-front-fits none h = absurd (omega arith)
-front-fits (more a b r) h = record { room = a; within = b }
-
--- A search for a name has so many records left; w is what is asked of the whole.
-pub record Search (name : List ℕ) (left : ℕ) (rest : List ℕ) (w : Bool) : Type 0 where
-  pub records : LabelRecords left rest
-  pub here : nameUsed (labelsAt left rest) name ≡ w
-
-module _ {name : List ℕ} {left : ℕ} {rest : List ℕ} {w : Bool} (s : Search name left rest w) where
-  pub search-room : 0 < left → 6 ≤ word rest 0
-  unfolding recordLength
-  search-room h = front-fits (s .records) h .room
-
-  pub search-within : 0 < left → word rest 0 ≤ length rest
-  unfolding recordLength
-  search-within h = front-fits (s .records) h .within
-
-search-front : {name : List ℕ} {left : ℕ} {rest : List ℕ} {w : Bool} → Search name left rest w → 0 < left
-    → (same (take (recordLength rest - 6) (drop 6 rest)) name || nameUsed (labelsAt (left - 1) (drop (recordLength rest) rest)) name ≡ w)
-    × LabelRecords (left - 1) (drop (recordLength rest) rest)
-search-front {left = zero} s h = absurd (omega arith)
-search-front {name = name} {left = suc left} {rest = rest} {w = w} s h = go (s .records)
-  where
-    go : LabelRecords (suc left) rest
-        → (same (take (recordLength rest - 6) (drop 6 rest)) name || nameUsed (labelsAt (suc left - 1) (drop (recordLength rest) rest)) name ≡ w)
-        × LabelRecords (suc left - 1) (drop (recordLength rest) rest)
-    go (more a b r) = rw sub-one (unfold labelsAt nameUsed any in (rw (name-part rest) at (s .here), r))
-
-module _ {name : List ℕ} {left : ℕ} {rest : List ℕ} {w : Bool} (s : Search name left rest w) where
-  front-test : {end : ℕ} → end ≡ word rest 0 → {r b : Bool} → r ≡ same (take (end - 6) (drop 6 rest)) name → r ≡ b
-      → same (take (recordLength rest - 6) (drop 6 rest)) name ≡ b
-  unfolding recordLength
-  front-test e t q = sym (ap (λ (n : ℕ). same (take (n - 6) (drop 6 rest)) name) e) ∙ (sym t ∙ q)
-
-  pub search-found : 0 < left → {end : ℕ} → end ≡ word rest 0 → {r : Bool} → r ≡ same (take (end - 6) (drop 6 rest)) name → r ≡ true → true ≡ w
-  search-found h e t q = rw (front-test e t q) at (search-front s h .0)
-
-  pub search-next : 0 < left → {end : ℕ} → end ≡ word rest 0 → {r : Bool} → r ≡ same (take (end - 6) (drop 6 rest)) name → r ≡ false
-      → Search name (left - 1) (take (length rest - end) (drop end rest)) w
-  search-next h {end} e t q =
-      rw (part-to-end rest end, e ∙ long)
-      (record { records = search-front s h .1; here = rw (front-test e t q) at (search-front s h .0) })
-    where
-      long : word rest 0 ≡ recordLength rest
-      long = unfold recordLength in refl
-
-pub search-done : {name : List ℕ} {left : ℕ} {rest : List ℕ} {w : Bool} → Search name left rest w → left ≤ 0 → false ≡ w
-unfolding labelsAt nameUsed any
-search-done {left = zero} s h = s .here
-search-done {left = suc left} s h = absurd (omega arith)
+-- the names looked at by their records
+pub names-are : (n : ℕ) (l name : List ℕ) → anyRecord 6 name n l ≡ nameUsed (labelsAt n l) name
+unfolding anyRecord nameUsed labelsAt any
+names-are zero l name = refl
+names-are (suc n) l name = ap₂ _||_ (ap (λ (p : List ℕ). same p name) (sym (name-part l))) (names-are n (drop (recordLength l) l) name)
 
 pub class-element : (class : ℕ) → class ≡ 1 → true ≡ isClass class
 unfolding isClass

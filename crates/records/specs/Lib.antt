@@ -1,4 +1,5 @@
 -- What the readers of whole inputs say, and their laws.
+pub mod Repeats
 pub mod Labels
 pub mod Keys
 pub mod Agree

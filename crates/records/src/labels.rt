@@ -1,14 +1,14 @@
 // Label records of a profile: document 01, refusal 3.
+use crate::repeats::part_used;
 use shapes::fields::wide;
-use shapes::fields::word;
 use shapes::names::is_name;
-use shapes::names::same_bytes;
 ghost use mathlib.Core.Path.{_≡_};
 ghost use Prim.Native.Nat.{_≤_};
 ghost use lib.ListN.{length};
 ghost use Rattle.meaning.specs.Records.{readLabel};
 ghost use Rattle.meaning.specs.Refusals.{goodLabel};
-ghost use Rattle.records.specs.Labels.{LabelRecords, Highest, labelsAt, nameUsed, isClass};
+ghost use Rattle.records.specs.Labels.{Highest, labelsAt, isClass};
+ghost use Rattle.records.specs.Repeats.{Standing};
 
 // "Labels 2 to 200 are declared as element or attribute."
 const FIRST_DECLARED: usize = 2;
@@ -25,24 +25,6 @@ const NAME_AT: usize = 2;
 
 const NAME_IN_RECORD: usize = 6;
 
-// "name .. used before": one of the first label records has it.
-pub fn name_used(bytes: &[u8], count: usize, name: &[u8]) -> bool
-    requires { ⌜ LabelRecords count (now bytes) ⌝ }
-    ensures { λ r. ⌜ r ≡ nameUsed (labelsAt count (now (bytes .entry))) (now (name .entry)) ⌝ }
-{
-    let mut rest = bytes;
-    let mut left = count;
-    while 0 < left {
-        let end = word(rest, 0);
-        if same_bytes(&rest[NAME_IN_RECORD..end], name) {
-            return true;
-        }
-        rest = &rest[end..];
-        left -= 1;
-    }
-    false
-}
-
 // "class (1 element, 2 attribute)"
 fn is_class(class: usize) -> bool
     ensures { λ r. ⌜ r ≡ isClass class ⌝ }
@@ -55,7 +37,7 @@ fn is_class(class: usize) -> bool
 
 // 3: "label number outside 2..200 or not ascending; class; name ill-formed or used before"
 pub fn good_label(bytes: &[u8], count: usize, last: usize, body: &[u8]) -> bool
-    requires { ⌜ LabelRecords count (now bytes) × Highest (labelsAt count (now bytes)) last × (2 ≤ length (now body)) ⌝ }
+    requires { ⌜ Standing 6 count (now bytes) × Highest (labelsAt count (now bytes)) last × (2 ≤ length (now body)) ⌝ }
     ensures { λ r. ⌜ r ≡ goodLabel (labelsAt count (now (bytes .entry))) (readLabel (now (body .entry))) ⌝ }
 {
     let number = wide(body[0]);
@@ -75,5 +57,5 @@ pub fn good_label(bytes: &[u8], count: usize, last: usize, body: &[u8]) -> bool
     if !is_name(name) {
         return false;
     }
-    !name_used(bytes, count, name)
+    !part_used(bytes, count, NAME_IN_RECORD, name)
 }

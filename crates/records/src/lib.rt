@@ -3,3 +3,4 @@ pub mod keys;
 pub mod labels;
 pub mod profile;
 pub mod question;
+pub mod repeats;

@@ -1,9 +1,11 @@
 // A whole profile: its size, then its labels and its keys from the front.
 use crate::keys::judge_key;
 use crate::labels::good_label;
+use crate::repeats::part_used;
 use judged::ACCEPTED;
 use judged::BAD_LABEL;
 use judged::Judged;
+use judged::KEY_TWICE;
 use judged::TOO_LARGE;
 use shapes::bodies::EDITION_KIND;
 use shapes::bodies::LABEL_KIND;
@@ -40,7 +42,7 @@ pub struct KeysRead {
     pub keys: usize,
 }
 
-// The keys, from the first record that is no label's on.
+// The keys, from the first record that is no label's on. 15, "two equal keys", is asked of a key with no fault of its own.
 pub fn read_keys(bytes: &[u8], classes: &[u8; 256]) -> KeysRead
     requires { ⌜ isLabelRecord (now bytes) ≡ false ⌝ }
     ensures { λ r. ⌜ KeysSay (now (classes .entry)) (now (bytes .entry)) (r .number) (r .keys) ⌝ }
@@ -53,6 +55,12 @@ pub fn read_keys(bytes: &[u8], classes: &[u8; 256]) -> KeysRead
             return KeysRead { number, keys };
         }
         let end = word(rest, 0);
+        if part_used(bytes, keys, HEAD_BYTES, &rest[HEAD_BYTES..end]) {
+            return KeysRead {
+                number: KEY_TWICE,
+                keys,
+            };
+        }
         rest = &rest[end..];
         keys += 1;
     }

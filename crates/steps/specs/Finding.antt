@@ -10,7 +10,7 @@ use lib.Seq.{getD-set-same, getD-set-other}
 use Rattle.meaning.specs.Records.{keyIn}
 use Rattle.meaning.specs.Pattern.{qOf, tOf}
 use Rattle.theory_derive.specs.Spots.{Taken as Step, Chain, begun, taken}
-use Rattle.lines.specs.Premises.{keysFrom, KeyRecords}
+use Rattle.theory_records.specs.KeyPlaces.{keysFrom, KeyRecords}
 use Rattle.pattern_lines.specs.Drawn.{Asked, Drawn}
 use Rattle.steps.specs.declared.firing.Taken.{Taken}
 use Rattle.steps.specs.declared.search.Found.{Found}

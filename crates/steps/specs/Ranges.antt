@@ -1,5 +1,5 @@
 -- The ranges of the outer loops: the branches, then the profile's keys. A law for each return and each turn.
-use Prim.Native.Nat.{ℕ, zero, suc, _+_, _-_, _≤_, _<_}
+use Prim.Native.Nat.{ℕ, _+_, _-_, _≤_, _<_}
 use mathlib.Core.Path.{_≡_, refl, sym, ap, subst, _∙_}
 use mathlib.Core.Logic.{_⊎_, inl, inr}
 use mathlib.Core.Bool.{true, false}
@@ -19,7 +19,7 @@ use Rattle.theory_derive.specs.Spots.{Taken as Step, lineOf, firesBy, firesFoun
 use Rattle.theory_derive.specs.Firing.{fires-says}
 use Rattle.theory_derive.specs.Lines.{line-length}
 use Rattle.theory_derive.specs.Ranges.{InRange}
-use Rattle.lines.specs.Premises.{keysFrom, KeyRecord, KeyRecords, key-at}
+use Rattle.theory_records.specs.KeyPlaces.{keysFrom, KeyRecord, key-shape, KeyRecords, keys-length, key-at}
 use Rattle.pattern_lines.specs.Drawn.{Drawn}
 use Rattle.steps.specs.declared.firing.Taken.{Taken}
 use Rattle.steps.specs.Firing.{OnBranch, Hit, NoneAt, NoneOn}
@@ -99,11 +99,6 @@ module _ {body lines key : List ℕ} {u : ℕ} (o : OfKey body lines key u) {bel
 unfoldable pub stepOf : Taken → Step
 stepOf t = record { key = t .key; node = t .node; branch = t .branch; spot = t .spot }
 
-keys-length : (n : ℕ) (l : List ℕ) → length (keysFrom n l) ≡ n
-unfolding keysFrom
-keys-length zero l = refl
-keys-length (suc n) l = ap suc (keys-length n (drop (recordLength l) l))
-
 -- the profile from its first key on, so many keys
 pub record OfKeys (part : List ℕ) (keys : ℕ) (body lines : List ℕ) (u : ℕ) : Type 0 where
   pub ready : Ready body lines u
@@ -139,7 +134,7 @@ module _ {part : List ℕ} {keys : ℕ} {body lines : List ℕ} {u : ℕ} (o : O
     stands = subst KeyRecord (sym (w .here)) (o .records .each number h)
 
     pub walking-long : (4 ≤ end) × (end ≤ length rest)
-    walking-long = (omega (arith, stands .long), omega (arith, stands .within))
+    walking-long = (omega (arith, stands .isWhole .long), omega (arith, stands .isWhole .within))
 
     body-is : take (end - 4) (drop 4 rest) ≡ recordBody rest
     unfolding recordBody
@@ -149,7 +144,7 @@ module _ {part : List ℕ} {keys : ℕ} {body lines : List ℕ} {u : ℕ} (o : O
     key-is = ap keyIn (body-is ∙ ap recordBody (w .here))
 
     pub walking-key : OfKey body lines (take (end - 4) (drop 4 rest)) u
-    walking-key = record { ready = o .ready; isKey = ap (λ (l : List ℕ). isSome (readKey l)) body-is ∙ stands .shape }
+    walking-key = record { ready = o .ready; isKey = ap (λ (l : List ℕ). isSome (readKey l)) body-is ∙ key-shape stands }
 
     pub walking-hit : {t : Taken} → Hit (keyIn body) (keyIn (take (end - 4) (drop 4 rest))) number u t → HitKeys part keys body u t
     unfolding stepOf

@@ -1,23 +1,23 @@
 -- What it says that one record is accepted, for each input: document 01, "in one record 7, then 1, 2, 3, 4, 5, 6, 8, 9".
-use Prim.Native.Nat.{ℕ, zero, suc, _-_, _≤_, _<_}
-use mathlib.Core.Path.{_≡_, refl, sym, subst, ap, _∙_}
+use Prim.Native.Nat.{ℕ, _-_, _≤_, _<_}
+use mathlib.Core.Path.{_≡_, refl, _∙_}
 use mathlib.Core.Logic.{_⊎_, inl, inr}
-use mathlib.Core.Bool.{Bool, true, false, cond, _&&_, _||_, not}
-use mathlib.Core.List.{List, [], _∷_, _++_}
+use mathlib.Core.Bool.{Bool, true, false, cond, _&&_, not}
+use mathlib.Core.List.{List, [], _∷_}
 use native.Mathlib.Omega.{arith}
-use borrow.Author.Tests.{leb-true, leb-false, le-leb, lt-leb, eqb-true, eq-eqb, not-true, not-false}
+use borrow.Author.Tests.{leb-false, le-leb, lt-leb, eqb-true, eq-eqb, not-false}
 use lib.Dec.{leb, eqb}
-use lib.ListN.{length, drop}
+use lib.ListN.{length}
 use Rattle.meaning.specs.Limits.{KeyLimits, inProfile, inProof}
-use Rattle.meaning.specs.Lists.{isEmpty}
+use Rattle.meaning.specs.Lists.{isEmpty, every}
 use Rattle.meaning.specs.Paths.{Label, classOf, singles}
 use Rattle.meaning.specs.Trees.{Node}
 use Rattle.meaning.specs.Keys.{Key}
 use Rattle.meaning.specs.Rules.{Line}
-use Rattle.meaning.specs.Records.{recordLength, recordKind, recordBody, readLabel, keyIn, readNode, readLine}
-use Rattle.meaning.specs.Refusals.{firstOf, tooMany, whole, goodLabel, keyTests, Profile, inProfileOrder, profileTests, questionTests, goodRoot, goodBelow, repeated, treeTests, lineTests}
+use Rattle.meaning.specs.Records.{recordKind, recordBody, readLabel, keyIn, readNode, readLine}
+use Rattle.meaning.specs.Refusals.{firstOf, tooMany, whole, goodLabel, keyTests, keyTwice, profileKeyTests, Profile, inProfileOrder, profileTests, questionTests, goodRoot, goodBelow, repeated, treeTests, lineTests}
 use Rattle.theory_paths.specs.Good.{GoodKey, good-of-tests}
-use Rattle.theory_records.specs.Tests.{both, either, never, and-true, first-none, first-fails, not-holds}
+use Rattle.theory_records.specs.Tests.{both, either, never, first-none, first-fails, numbered, first-passes, first-both}
 use Rattle.theory_records.specs.Heads.{Whole, whole-says}
 
 -- 7 is not given to a record of the counted kind: there is room for it
@@ -64,9 +64,15 @@ pub record KeyRecordAccepted (p : Profile) (l : List ℕ) : Type 0 where
   pub kind : recordKind l ≡ 2
   pub room : length (p .keys) < 64
   pub good : GoodKey (p .labels) inProfile (keyIn (recordBody l))
+  pub new : keyTwice (p .keys) (keyIn (recordBody l)) ≡ false
+
+-- none of the tests of a key has number 0
+key-numbered : (labels : List Label) (limits : KeyLimits) (k : Key) → numbered (keyTests labels limits k) ≡ true
+unfolding keyTests numbered every
+key-numbered labels limits k = refl
 
 pub profile-accepted : (p : Profile) (l : List ℕ) → firstOf (profileTests p l) ≡ 0 → LabelAccepted p l ⊎ KeyRecordAccepted p l
-unfolding profileTests inProfileOrder
+unfolding profileTests inProfileOrder profileKeyTests
 profile-accepted p l e =
     let seven = first-none _ _ _ e in
     let one = first-none _ _ _ (seven .1) in
@@ -75,7 +81,8 @@ profile-accepted p l e =
     go w (two .1) (seven .0) (either _ _ (not-false _ (two .0)))
   where
     go : Whole l
-        → firstOf (cond (eqb (recordKind l) 1) ((3, not (goodLabel (p .labels) (readLabel (recordBody l)))) ∷ []) (keyTests (p .labels) inProfile (keyIn (recordBody l)))) ≡ 0
+        → firstOf (cond (eqb (recordKind l) 1) ((3, not (goodLabel (p .labels) (readLabel (recordBody l)))) ∷ [])
+        (profileKeyTests (p .labels) (p .keys) (keyIn (recordBody l)))) ≡ 0
         → tooMany 2 64 (length (p .keys)) l ≡ false
         → ((eqb (recordKind l) 1 && isEmpty (p .keys) ≡ true) ⊎ (eqb (recordKind l) 2 ≡ true)) → LabelAccepted p l ⊎ KeyRecordAccepted p l
     go w rest seven (inl k) =
@@ -89,12 +96,14 @@ profile-accepted p l e =
         })
     go w rest seven (inr k) =
         let two : recordKind l ≡ 2 = eqb-true _ _ k in
+        let tests = first-both _ _ (key-numbered (p .labels) inProfile (keyIn (recordBody l))) (rw two at rest) in
         inr
         (record {
           isWhole = w;
           kind = two;
           room = room-says 2 64 (length (p .keys)) l (w .head) two seven;
-          good = good-of-tests _ _ _ (rw two at rest);
+          good = good-of-tests _ _ _ (tests .0);
+          new = first-none _ _ _ (tests .1) .0;
         })
 
 -- A question's record: it is the first
@@ -173,9 +182,12 @@ unfolding profileTests firstOf inProfileOrder
 profile-label-passes p l none w k good = rw (room-left 2 64 (length (p .keys)) l (omega arith), w, k, good, none-empty (p .keys) none)
 
 pub profile-key-passes : (p : Profile) (l : List ℕ) → length (p .keys) < 64 → whole l ≡ true → recordKind l ≡ 2
-    → firstOf (keyTests (p .labels) inProfile (keyIn (recordBody l))) ≡ 0 → firstOf (profileTests p l) ≡ 0
-unfolding profileTests firstOf inProfileOrder
-profile-key-passes p l room w k good = rw (room-left 2 64 (length (p .keys)) l room, w, k) good
+    → firstOf (keyTests (p .labels) inProfile (keyIn (recordBody l))) ≡ 0 → keyTwice (p .keys) (keyIn (recordBody l)) ≡ false
+    → firstOf (profileTests p l) ≡ 0
+unfolding profileTests firstOf inProfileOrder profileKeyTests
+profile-key-passes p l room w k good new =
+    rw (room-left 2 64 (length (p .keys)) l room, w, k)
+    (first-passes _ _ (key-numbered (p .labels) inProfile (keyIn (recordBody l))) good ∙ first-fails 15 [] new)
 
 pub question-passes : (labels : List Label) (l : List ℕ) → whole l ≡ true → recordKind l ≡ 2
     → firstOf (keyTests labels inProfile (keyIn (recordBody l))) ≡ 0 → firstOf (questionTests labels [] l) ≡ 0

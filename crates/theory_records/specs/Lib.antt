@@ -11,6 +11,7 @@ pub mod Profiles
 pub mod TreeFiles
 pub mod Questions
 pub mod Bodies
+pub mod KeyPlaces
 pub mod Places
 pub mod Written
 pub mod WrittenInputs

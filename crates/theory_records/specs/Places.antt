@@ -1,9 +1,9 @@
 -- Where what was read stands: line i of a proof is record i, key i of a profile is the record after the labels and i keys.
 use Prim.Native.Nat.{ℕ, zero, suc, _+_, _≤_, _<_}
 use mathlib.Core.Path.{_≡_, refl, sym, subst, ap, _∙_}
-use mathlib.Core.Logic.{_⊎_, inl, inr, ⊎-elim}
+use mathlib.Core.Logic.{⊎-elim}
 use mathlib.Core.List.{List, [], _∷_, _++_}
-use mathlib.Core.Option.{Option, some}
+use mathlib.Core.Option.{some}
 use native.Mathlib.Omega.{arith}
 use native.Mathlib.Nat.{eq-or-lt-of-le}
 use lib.ListN.{length, drop, getElem?}
@@ -11,16 +11,18 @@ use Rattle.meaning.specs.Limits.{inProfile, inProof}
 use Rattle.meaning.specs.Paths.{Label}
 use Rattle.meaning.specs.Keys.{Key}
 use Rattle.meaning.specs.Rules.{Line}
-use Rattle.meaning.specs.Records.{recordLength, recordKind, recordBody, readLabel, keyIn, readLine}
-use Rattle.meaning.specs.Refusals.{Walked, firstOf, walk, Profile, noProfile, profileTests, profileNext, behindEdition, firstEntry, profileWalked, profileIn, profileRefusal, lineTests, proofWalked}
+use Rattle.meaning.specs.Records.{recordLength, recordKind, recordBody, keyIn, readLine}
+use Rattle.meaning.specs.Refusals.{firstOf, firstEntry, profileIn, lineTests, proofWalked}
 use Rattle.meaning.specs.Operations.{recordsFrom, labelsIn, keysIn}
+use Rattle.theory_paths.specs.Bools.{Each-nth}
 use Rattle.theory_paths.specs.Good.{GoodKey}
-use Rattle.theory_records.specs.Walks.{Stopped, walk-keeps}
+use Rattle.theory_records.specs.Walks.{walk-keeps}
 use Rattle.theory_records.specs.Heads.{Whole}
-use Rattle.theory_records.specs.Judged.{LabelAccepted, KeyRecordAccepted, profile-accepted, LineAccepted, line-accepted}
-use Rattle.theory_records.specs.Profiles.{length-more, next-label, next-key, profile-long}
+use Rattle.theory_records.specs.Judged.{line-accepted}
+use Rattle.theory_records.specs.Profiles.{length-more, good-at-stop}
 use Rattle.theory_records.specs.Questions.{lines-long}
-use Rattle.theory_records.specs.Bodies.{records-next, behind-here}
+use Rattle.theory_records.specs.Bodies.{records-next, records-add}
+use Rattle.theory_records.specs.KeyPlaces.{KeyRecord, key-at, profile-keys-are, profile-key-records}
 
 pub at-left : {A : Type 0} (xs ys : List A) (i : ℕ) → i < length xs → getElem? (xs ++ ys) i ≡ getElem? xs i
 at-left [] ys i h = absurd (omega arith)
@@ -98,67 +100,14 @@ pub record KeyPlace (labels : List Label) (bytes : List ℕ) (keys : List Key) (
   pub kind : recordKind (recordsFrom (firstEntry bytes + length labels + i) bytes) ≡ 2
   pub good : GoodKey labels inProfile (keyIn (recordBody (recordsFrom (firstEntry bytes + length labels + i) bytes)))
 
-pub record KeysStand (bytes : List ℕ) (n : ℕ) (p : Profile) (rest : List ℕ) : Type 0 where
-  pub counted : n ≡ firstEntry bytes + length (p .labels) + length (p .keys)
-  pub here : rest ≡ recordsFrom n bytes
-  pub each : (i : ℕ) → i < length (p .keys) → KeyPlace (p .labels) bytes (p .keys) i
-
-no-key : (labels : List Label) (bytes : List ℕ) (keys : List Key) → keys ≡ [] → (i : ℕ) → i < length keys → KeyPlace labels bytes keys i
-no-key labels bytes keys e i h = absurd (omega (arith, ap length e))
-
-keys-stand-more : (bytes : List ℕ) (n : ℕ) (p : Profile) (l : List ℕ) → KeysStand bytes n p l → 0 < length l → firstOf (profileTests p l) ≡ 0
-    → KeysStand bytes (suc n) (profileNext p l) (drop (recordLength l) l)
-keys-stand-more bytes n p l g h e =
-    ⊎-elim (λ (a : LabelAccepted p l). rw (next-label p l (a .kind)) (one-label a))
-    (λ (a : KeyRecordAccepted p l). rw (next-key p l (a .kind)) (one-key a))
-    (profile-accepted p l e)
-  where
-    onward : drop (recordLength l) l ≡ recordsFrom (suc n) bytes
-    onward = ap (λ (r : List ℕ). drop (recordLength r) r) (g .here) ∙ sym (records-next n bytes)
-
-    one-label : LabelAccepted p l
-        → KeysStand bytes (suc n) (record { labels = p .labels ++ (readLabel (recordBody l) ∷ []); keys = p .keys }) (drop (recordLength l) l)
-    one-label a =
-        record {
-          counted = omega (arith, g .counted, length-more (p .labels) (readLabel (recordBody l)));
-          here = onward;
-          each = no-key (p .labels ++ (readLabel (recordBody l) ∷ [])) bytes (p .keys) (a .beforeKeys);
-        }
-
-    x : Key
-    x = keyIn (recordBody l)
-
-    at-most : (i m k : ℕ) → m ≡ suc k → i < m → i ≤ k
-    at-most i m k q h = omega arith
-
-    one-key : KeyRecordAccepted p l → KeysStand bytes (suc n) (record { labels = p .labels; keys = p .keys ++ (x ∷ []) }) (drop (recordLength l) l)
-    one-key a =
-        record {
-          counted = omega (arith, g .counted, length-more (p .keys) x);
-          here = onward;
-          each = λ i k.
-              ⊎-elim
-              (λ (q : i ≡ length (p .keys)).
-              let there : l ≡ recordsFrom (firstEntry bytes + length (p .labels) + i) bytes =
-              g .here ∙ ap (λ (j : ℕ). recordsFrom j bytes) (g .counted ∙ ap (λ (j : ℕ). firstEntry bytes + length (p .labels) + j) (sym q)) in
-              record {
-                is =
-                    ap (getElem? (p .keys ++ (x ∷ []))) q ∙ (at-seam (p .keys) x [] ∙ ap (λ (r : List ℕ). some (keyIn (recordBody r))) there);
-                isWhole = subst Whole there (a .isWhole);
-                kind = subst (λ (r : List ℕ). recordKind r ≡ 2) there (a .kind);
-                good = subst (λ (r : List ℕ). GoodKey (p .labels) inProfile (keyIn (recordBody r))) there (a .good);
-              })
-              (λ (q : i < length (p .keys)).
-              let old = g .each i q in
-              record { is = at-left (p .keys) (x ∷ []) i q ∙ old .is; isWhole = old .isWhole; kind = old .kind; good = old .good })
-              (eq-or-lt-of-le (at-most i (length (p .keys ++ (x ∷ []))) (length (p .keys)) (length-more (p .keys) x) k));
-        }
-
 -- of the labels and keys read, also of a profile that is refused further on
 pub key-place : (bytes : List ℕ) (i : ℕ) → i < length (keysIn bytes) → KeyPlace (labelsIn bytes) bytes (keysIn bytes) i
-unfolding labelsIn keysIn profileIn profileWalked
+unfolding labelsIn keysIn profileIn
 key-place bytes i h =
-    walk-keeps profileTests profileNext (KeysStand bytes) profile-long (keys-stand-more bytes) (firstEntry bytes) noProfile (behindEdition bytes)
-    (record { counted = omega arith; here = behind-here bytes; each = λ i h. absurd (omega arith) })
-    .held
-    .each i h
+    let before : ℕ = firstEntry bytes + length (labelsIn bytes) in
+    let there : recordsFrom i (recordsFrom before bytes) ≡ recordsFrom (before + i) bytes = sym (records-add before i bytes) in
+    let its : KeyRecord (recordsFrom (before + i) bytes) = subst KeyRecord there (profile-key-records bytes .each i h) in
+    let is : getElem? (keysIn bytes) i ≡ some (keyIn (recordBody (recordsFrom (before + i) bytes))) =
+    ap (λ (keys : List Key). getElem? keys i) (sym (profile-keys-are bytes))
+    ∙ (key-at (length (keysIn bytes)) i (recordsFrom before bytes) h ∙ ap (λ (l : List ℕ). some (keyIn (recordBody l))) there) in
+    record { is = is; isWhole = its .isWhole; kind = its .kind; good = Each-nth i (good-at-stop bytes .keys) is }

@@ -1,23 +1,23 @@
 -- An accepted profile: its labels and keys are good, and its bytes are the encodings of its labels and then of its keys.
-use Prim.Native.Nat.{ℕ, zero, suc, _+_, _≤_, _<_}
+use Prim.Native.Nat.{ℕ, suc, _+_, _≤_, _<_}
 use mathlib.Core.Path.{_≡_, refl, sym, subst, ap, ap₂, _∙_}
-use mathlib.Core.Logic.{_⊎_, inl, inr, ⊎-elim}
+use mathlib.Core.Logic.{_⊎_, ⊎-elim}
 use mathlib.Core.Bool.{Bool, true, false, cond, not}
 use mathlib.Core.List.{List, [], _∷_, _++_, map, flatten, append-assoc, append-nil}
 use native.Mathlib.Omega.{arith}
-use borrow.Author.Tests.{leb-true, leb-false, ltb-false, eqb-true, eqb-false, eq-eqb}
-use lib.Dec.{leb, ltb, eqb}
+use borrow.Author.Tests.{ltb-false, eqb-true, eqb-false}
+use lib.Dec.{ltb, eqb}
 use lib.ListN.{length, getD, drop, length-append}
 use Rattle.meaning.specs.Limits.{inProfile}
 use Rattle.meaning.specs.Lists.{Each, end, also}
 use Rattle.meaning.specs.Paths.{Label}
 use Rattle.meaning.specs.Keys.{Key}
 use Rattle.meaning.specs.Records.{recordLength, recordKind, recordBody, recordBytes, readLabel, labelBytes, keyIn, keyBytes}
-use Rattle.meaning.specs.Refusals.{Refusal, firstRefusal, firstOf, Walked, walk, goodLabel, Profile, noProfile, profileTests, profileNext, hasEdition, behindEdition, firstEntry, editionRefusal, profileWalked, profileIn, profileRefusal, oversize, whole, sound}
+use Rattle.meaning.specs.Refusals.{Refusal, firstRefusal, firstOf, goodLabel, keyTwice, Profile, noProfile, profileTests, profileNext, hasEdition, behindEdition, firstEntry, editionRefusal, profileWalked, profileIn, profileRefusal, oversize, whole, sound}
 use Rattle.meaning.specs.Operations.{labelsIn, keysIn}
 use Rattle.theory_paths.specs.Bools.{of-true}
 use Rattle.theory_paths.specs.Good.{GoodLabels, good-labels-none, good-labels-more, GoodKey}
-use Rattle.theory_records.specs.Walks.{Stopped, walk-keeps}
+use Rattle.theory_records.specs.Walks.{walk-keeps}
 use Rattle.theory_records.specs.Bytes.{Bytes, bytes-drop}
 use Rattle.theory_records.specs.Tests.{both}
 use Rattle.theory_records.specs.Heads.{whole-says}
@@ -34,15 +34,22 @@ editionBytes second = cond second (recordBytes 6 (2 ∷ [])) []
 unfoldable pub profileBytes : Bool → Profile → List ℕ
 profileBytes second p = editionBytes second ++ entryBytes p
 
--- labels read one after the other, each of them good beside those before it
-pub data LabelsRead : List Label → Type 0 where
-  noLabel : {labels : List Label} → labels ≡ [] → LabelsRead labels
-  oneMore : {labels : List Label} (before : List Label) (l : Label) → LabelsRead before → goodLabel before l ≡ true
-      → labels ≡ before ++ (l ∷ []) → LabelsRead labels
+-- read one after the other, each as Q asks of it beside those before it
+pub data OneByOne {A : Type 0} (Q : List A → A → Type 0) : List A → Type 0 where
+  noneYet : {xs : List A} → xs ≡ [] → OneByOne Q xs
+  oneMore : {xs : List A} (before : List A) (x : A) → OneByOne Q before → Q before x → xs ≡ before ++ (x ∷ []) → OneByOne Q xs
 
--- .. and so between 2 and 200
+-- labels, each of them good beside those before it
+abbrev pub LabelsRead : List Label → Type 0
+LabelsRead labels = OneByOne (λ (before : List Label) (l : Label). goodLabel before l ≡ true) labels
+
+-- keys, no two of them equal
+abbrev pub Different : List Key → Type 0
+Different keys = OneByOne (λ (before : List Key) (k : Key). keyTwice before k ≡ false) keys
+
+-- the numbers of labels so read are between 2 and 200
 pub labels-good : {labels : List Label} → LabelsRead labels → GoodLabels labels
-labels-good (noLabel e) = subst GoodLabels (sym e) good-labels-none
+labels-good (noneYet e) = subst GoodLabels (sym e) good-labels-none
 labels-good (oneMore before l more good e) = subst GoodLabels (sym e) (good-labels-more before l (labels-good more) (of-true _ good))
 
 pub flat-more : {A : Type 0} (f : A → List ℕ) (xs : List A) (x : A) → flatten (map f (xs ++ (x ∷ []))) ≡ flatten (map f xs) ++ f x
@@ -61,6 +68,10 @@ pub each-more : {A : Type 0} {Q : A → Type 0} {xs : List A} {x : A} → Each Q
 each-more end q = also q end
 each-more (also p ps) q = also p (each-more ps q)
 
+pub each-less : {A : Type 0} {Q : A → Type 0} (xs : List A) {x : A} → Each Q (xs ++ (x ∷ [])) → Each Q xs × Q x
+each-less [] (also q end) = (end, q)
+each-less (y ∷ xs) (also p ps) = let r = each-less xs ps in (also p (r .0), r .1)
+
 pub length-more : {A : Type 0} (xs : List A) (x : A) → length (xs ++ (x ∷ [])) ≡ suc (length xs)
 length-more xs x = omega (arith, length-append xs (x ∷ []))
 
@@ -78,6 +89,7 @@ next-key p l k = rw k
 pub record ProfileGood (first n : ℕ) (p : Profile) : Type 0 where
   pub labels : LabelsRead (p .labels)
   pub keys : Each (GoodKey (p .labels) inProfile) (p .keys)
+  pub different : Different (p .keys)
   pub few : length (p .keys) ≤ 64
   pub counted : n ≡ first + (length (p .labels) + length (p .keys))
 
@@ -90,6 +102,7 @@ good-kept first n p l g h e =
     (record {
       labels = oneMore (p .labels) (readLabel (recordBody l)) (g .labels) (a .good) refl;
       keys = subst (λ (ks : List Key). Each (GoodKey (p .labels ++ (readLabel (recordBody l) ∷ [])) inProfile) ks) (sym (a .beforeKeys)) end;
+      different = g .different;
       few = g .few;
       counted = omega (arith, g .counted, length-more (p .labels) (readLabel (recordBody l)));
     }))
@@ -98,6 +111,7 @@ good-kept first n p l g h e =
     (record {
       labels = g .labels;
       keys = each-more (g .keys) (a .good);
+      different = oneMore (p .keys) (keyIn (recordBody l)) (g .different) (a .new) refl;
       few = omega (arith, a .room, length-more (p .keys) (keyIn (recordBody l)));
       counted = omega (arith, g .counted, length-more (p .keys) (keyIn (recordBody l)));
     }))
@@ -113,7 +127,7 @@ unfolding profileWalked
 good-at-stop bytes =
     walk-keeps profileTests profileNext (λ n p rest. ProfileGood (firstEntry bytes) n p) profile-long (good-kept (firstEntry bytes)) (firstEntry bytes)
     noProfile (behindEdition bytes)
-    (record { labels = noLabel refl; keys = end; few = omega arith; counted = omega arith })
+    (record { labels = noneYet refl; keys = end; different = noneYet refl; few = omega arith; counted = omega arith })
     .held
 
 -- What is written so far and what is left are the bytes
@@ -268,3 +282,7 @@ accepted-keys bytes e = profile-accepts bytes e .good .keys
 pub accepted-few : (bytes : List ℕ) → profileRefusal bytes .number ≡ 0 → length (keysIn bytes) ≤ 64
 unfolding keysIn
 accepted-few bytes e = profile-accepts bytes e .good .few
+
+pub accepted-different : (bytes : List ℕ) → profileRefusal bytes .number ≡ 0 → Different (keysIn bytes)
+unfolding keysIn
+accepted-different bytes e = profile-accepts bytes e .good .different

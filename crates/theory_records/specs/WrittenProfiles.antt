@@ -1,19 +1,19 @@
 -- A profile that is written is accepted and read back.
-use Prim.Native.Nat.{ℕ, zero, suc, _+_, _≤_, _<_}
+use Prim.Native.Nat.{ℕ, suc, _+_, _≤_, _<_}
 use mathlib.Core.Path.{_≡_, refl, sym, subst, ap, _∙_}
-use mathlib.Core.Bool.{Bool, true, false, cond, _&&_, _||_, not}
+use mathlib.Core.Bool.{Bool, true, false, _&&_, _||_, not}
 use mathlib.Core.List.{List, [], _∷_, _++_, map, flatten, append-assoc, append-nil}
 use native.Mathlib.Omega.{arith}
 use borrow.Author.Tests.{le-leb, le-ltb, leb-true, ne-eqb}
 use lib.Dec.{leb, ltb, eqb}
-use lib.ListN.{length, getD, drop, length-append}
+use lib.ListN.{length, getD, drop}
 use lib.Seq.{append-snoc}
 use Rattle.meaning.specs.Limits.{inProfile}
-use Rattle.meaning.specs.Lists.{Each, end, also, every, any, same}
+use Rattle.meaning.specs.Lists.{Each, end, every, any, same}
 use Rattle.meaning.specs.Paths.{Label}
 use Rattle.meaning.specs.Keys.{Key}
 use Rattle.meaning.specs.Records.{recordLength, recordKind, recordBody, recordBytes, bodyEnds, readLabel, labelBytes, keyIn, keyBody, keyBytes}
-use Rattle.meaning.specs.Refusals.{Refusal, sound, firstRefusal, oversize, Walked, firstOf, walk, isLetter, inName, isName, goodLabel, keyTests, Profile, noProfile, profileTests, profileNext, whole, hasEdition, behindEdition, firstEntry, editionRefusal, profileWalked, profileIn, profileRefusal}
+use Rattle.meaning.specs.Refusals.{sound, firstRefusal, oversize, Walked, walk, isLetter, inName, isName, goodLabel, keyTwice, Profile, noProfile, profileTests, profileNext, whole, hasEdition, behindEdition, firstEntry, editionRefusal, profileWalked, profileIn, profileRefusal}
 use Rattle.theory_paths.specs.Good.{GoodKey, tests-of-good}
 use Rattle.theory_records.specs.Tests.{both, never}
 use Rattle.theory_records.specs.Walks.{walk-end}
@@ -21,7 +21,7 @@ use Rattle.theory_records.specs.Heads.{written-length, written-kind, wri
 use Rattle.theory_records.specs.KeyBodies.{key-in-read, key-is-read}
 use Rattle.theory_records.specs.Encodings.{written-whole, label-read}
 use Rattle.theory_records.specs.Judged.{profile-label-passes, profile-key-passes}
-use Rattle.theory_records.specs.Profiles.{entryBytes, editionBytes, profileBytes, LabelsRead, noLabel, oneMore, next-label, next-key}
+use Rattle.theory_records.specs.Profiles.{entryBytes, editionBytes, profileBytes, LabelsRead, Different, noneYet, oneMore, each-less, length-more, next-label, next-key}
 use Rattle.theory_records.specs.Written.{Reads, AllRead, noMore, oneRead, addAll, walk-written, record-some, record-long, record-behind}
 use Rattle.theory_records.specs.WrittenInputs.{profile-body-size}
 
@@ -76,10 +76,10 @@ label-reads labels x good =
     same : (rest : List ℕ) → readLabel (recordBody (recordBytes 1 body ++ rest)) ≡ x
     same rest = ap readLabel (written-body 1 body rest size) ∙ label-read x
 
-key-record-reads : (p : Profile) (k : Key) → GoodKey (p .labels) inProfile k → length (p .keys) < 64
+key-record-reads : (p : Profile) (k : Key) → GoodKey (p .labels) inProfile k → length (p .keys) < 64 → keyTwice (p .keys) k ≡ false
     → Reads profileTests profileNext addKey keyBytes p k
 unfolding keyBytes
-key-record-reads p k good room =
+key-record-reads p k good room new =
     record {
       some = record-some 2 (keyBody k) size;
       accepted =
@@ -87,7 +87,8 @@ key-record-reads p k good room =
           profile-key-passes p (recordBytes 2 (keyBody k) ++ rest) room
           (written-whole 2 (keyBody k) rest size (omega arith) ∙ (unfold bodyEnds in key-is-read k))
           (written-kind 2 (keyBody k) rest (omega arith))
-          (rw (same rest) (tests-of-good (p .labels) inProfile k good));
+          (rw (same rest) (tests-of-good (p .labels) inProfile k good))
+          (rw (same rest) new);
       long = record-long 2 (keyBody k) size;
       behind = record-behind 2 (keyBody k) size;
       read =
@@ -103,9 +104,10 @@ key-record-reads p k good room =
     same rest = ap keyIn (written-body 2 (keyBody k) rest size) ∙ key-in-read k
 
 -- one more at the end of what reads
-read-more : {s : Profile} {xs : List Label} {x : Label} → AllRead profileTests profileNext addLabel labelBytes s xs
-    → Reads profileTests profileNext addLabel labelBytes (addAll profileTests profileNext addLabel labelBytes s xs) x
-    → AllRead profileTests profileNext addLabel labelBytes s (xs ++ (x ∷ []))
+read-more : {A : Type 0} {add : Profile → A → Profile} {encode : A → List ℕ} {s : Profile} {xs : List A} {x : A}
+    → AllRead profileTests profileNext add encode s xs
+    → Reads profileTests profileNext add encode (addAll profileTests profileNext add encode s xs) x
+    → AllRead profileTests profileNext add encode s (xs ++ (x ∷ []))
 read-more noMore r = oneRead r noMore
 read-more (oneRead q qs) r = oneRead q (read-more qs r)
 
@@ -114,7 +116,7 @@ add-labels s [] = ap labelled (sym (append-nil s))
 add-labels s (x ∷ xs) = add-labels (s ++ (x ∷ [])) xs ∙ ap labelled (append-snoc s x xs)
 
 labels-read : {labels : List Label} → LabelsRead labels → AllRead profileTests profileNext addLabel labelBytes noProfile labels
-labels-read (noLabel e) = subst (AllRead profileTests profileNext addLabel labelBytes noProfile) (sym e) noMore
+labels-read (noneYet e) = subst (AllRead profileTests profileNext addLabel labelBytes noProfile) (sym e) noMore
 labels-read (oneMore before l more good e) =
     subst (AllRead profileTests profileNext addLabel labelBytes noProfile) (sym e)
     (read-more (labels-read more)
@@ -125,32 +127,38 @@ add-keys : (labels : List Label) (s ks : List Key)
 add-keys labels s [] = ap (λ (l : List Key). record { labels = labels; keys = l }) (sym (append-nil s))
 add-keys labels s (k ∷ ks) = add-keys labels (s ++ (k ∷ [])) ks ∙ ap (λ (l : List Key). record { labels = labels; keys = l }) (append-snoc s k ks)
 
-keys-read : (labels : List Label) (done : List Key) {ks : List Key} → Each (GoodKey labels inProfile) ks → length (done ++ ks) ≤ 64
-    → AllRead profileTests profileNext addKey keyBytes (record { labels = labels; keys = done }) ks
-keys-read labels done end few = noMore
-keys-read labels done (also {x = k} {xs = ks} g gs) few =
-    oneRead (key-record-reads (record { labels = labels; keys = done }) k g (omega (arith, length-append done (k ∷ ks))))
-    (keys-read labels (done ++ (k ∷ [])) gs (subst (λ (l : List Key). length l ≤ 64) (sym (append-snoc done k ks)) few))
+keys-read : (labels : List Label) {keys : List Key} → Different keys → Each (GoodKey labels inProfile) keys → length keys ≤ 64
+    → AllRead profileTests profileNext addKey keyBytes (labelled labels) keys
+keys-read labels (noneYet e) good few = subst (AllRead profileTests profileNext addKey keyBytes (labelled labels)) (sym e) noMore
+keys-read labels (oneMore before k more new e) good few =
+    let parts = each-less before (subst (Each (GoodKey labels inProfile)) e good) in
+    let room : length before < 64 = omega (arith, few, ap length e, length-more before k) in
+    subst (AllRead profileTests profileNext addKey keyBytes (labelled labels)) (sym e)
+    (read-more (keys-read labels more (parts .0) (omega arith))
+    (subst (λ (s : Profile). Reads profileTests profileNext addKey keyBytes s k) (sym (add-keys labels [] before))
+    (key-record-reads (record { labels = labels; keys = before }) k (parts .1) room new)))
 
 -- A profile of an edition that can be written
 pub record ProfileFits (second : Bool) (p : Profile) : Type 0 where
   pub labels : LabelsRead (p .labels)
   pub keys : Each (GoodKey (p .labels) inProfile) (p .keys)
+  pub different : Different (p .keys)
   pub few : length (p .keys) ≤ 64
   pub size : length (profileBytes second p) ≤ 16384
 
 -- labels and keys, from record n on
-entries-walked : (n : ℕ) (p : Profile) → LabelsRead (p .labels) → Each (GoodKey (p .labels) inProfile) (p .keys) → length (p .keys) ≤ 64
+entries-walked : (n : ℕ) (p : Profile) → LabelsRead (p .labels) → Each (GoodKey (p .labels) inProfile) (p .keys) → Different (p .keys)
+    → length (p .keys) ≤ 64
     → walk profileTests profileNext 0 n noProfile (entryBytes p) ≡ record { number = 0; at = n + length (p .labels) + length (p .keys); state = p }
 unfolding entryBytes
-entries-walked n p labels keys few =
+entries-walked n p labels keys different few =
     let K : List ℕ = flatten (map keyBytes (p .keys)) in
     let all : Profile = addAll profileTests profileNext addKey keyBytes (labelled (p .labels)) (p .keys) in
     let m : ℕ = n + length (p .labels) in
     walk-written profileTests profileNext addLabel labelBytes n K (labels-read labels)
     ∙ (ap (λ (s : Profile). walk profileTests profileNext 0 m s K) (add-labels [] (p .labels))
     ∙ (ap (λ (l : List ℕ). walk profileTests profileNext 0 m (labelled (p .labels)) l) (sym (append-nil K))
-    ∙ (walk-written profileTests profileNext addKey keyBytes m [] (keys-read (p .labels) [] keys few)
+    ∙ (walk-written profileTests profileNext addKey keyBytes m [] (keys-read (p .labels) different keys few)
     ∙ (walk-end profileTests profileNext (m + length (p .keys)) all ∙ finish all (add-keys (p .labels) [] (p .keys))))))
   where
     finish : (q : Profile) → q ≡ p
@@ -188,7 +196,7 @@ pub profile-walked-written : (second : Bool) (p : Profile) → ProfileFits secon
 unfolding profileWalked profileBytes editionBytes firstEntry behindEdition
 profile-walked-written false p f =
     let e = entries-plain p (f .labels) (f .keys) in
-    let w = entries-walked 0 p (f .labels) (f .keys) (f .few) in
+    let w = entries-walked 0 p (f .labels) (f .keys) (f .different) (f .few) in
     (e, rw e (ap (λ (x : Walked Profile). x .number) w), rw e (ap (λ (x : Walked Profile). x .state) w))
 profile-walked-written true p f =
     let all : List ℕ = recordBytes 6 (2 ∷ []) ++ entryBytes p in
@@ -197,7 +205,7 @@ profile-walked-written true p f =
     rw (written-whole 6 (2 ∷ []) (entryBytes p) (omega arith) (omega arith), written-kind 6 (2 ∷ []) (entryBytes p) (omega arith)) (unfold bodyEnds in refl) in
     let b : drop (recordLength all) all ≡ entryBytes p =
     ap (λ (k : ℕ). drop k all) (written-length 6 (2 ∷ []) (entryBytes p) (omega arith)) ∙ written-rest 6 (2 ∷ []) (entryBytes p) in
-    let w = entries-walked 1 p (f .labels) (f .keys) (f .few) in
+    let w = entries-walked 1 p (f .labels) (f .keys) (f .different) (f .few) in
     (e, rw (e, b) (ap (λ (x : Walked Profile). x .number) w), rw (e, b) (ap (λ (x : Walked Profile). x .state) w))
 
 pub profile-written-sound : (second : Bool) (p : Profile) → ProfileFits second p → profileRefusal (profileBytes second p) ≡ sound

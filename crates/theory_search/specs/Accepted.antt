@@ -22,7 +22,7 @@ use Rattle.theory_derive.specs.Logic.{getD-mem}
 use Rattle.theory_derive.specs.Spots.{Ends, Chain}
 use Rattle.theory_derive.specs.Ranges.{none-left}
 use Rattle.theory_derive.specs.Lowest.{chain-is-u}
-use Rattle.lines.specs.ProfileKeys.{profile-keys-are, profile-key-records}
+use Rattle.theory_records.specs.KeyPlaces.{profile-keys-are, profile-key-records}
 use Rattle.pattern_lines.specs.Drawn.{Asked}
 use Rattle.steps.specs.declared.search.Found.{Found}
 use Rattle.steps.specs.Ranges.{NoneLeft}

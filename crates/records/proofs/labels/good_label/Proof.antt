@@ -1,4 +1,5 @@
-use Rattle.records.specs.Labels.{Ordered, label-low, label-high, label-order, label-class, label-name, label-used}
+use Rattle.records.specs.Labels.{names-are, label-low, label-high, label-order, label-class, label-name, label-used}
+use mathlib.Core.Path.{_∙_}
 use native.Mathlib.Omega.{arith}
 use borrow.Author.Needs.{needs}
 use Rattle.records.proofs.labels.good_label.Statement.{statement}
@@ -6,7 +7,7 @@ use Rattle.records.proofs.labels.good_label.Tie as tie
 use Rattle.records.proofs.labels.good_label.Reads as reads
 use Rattle.records.proofs.labels.good_label.Lts as lts
 use Rattle.records.proofs.labels.is_class.Reads as is-class-reads
-use Rattle.records.proofs.labels.name_used.Reads as name-used-reads
+use Rattle.records.proofs.repeats.part_used.Reads as part-used-reads
 use Rattle.shapes.proofs.fields.wide.Reads as wide-reads
 use Rattle.shapes.proofs.names.is_name.Reads as is-name-reads
 
@@ -67,12 +68,12 @@ returns-5 : tie.Need-returns-5
 returns-5 c = label-name _ _ (record { highest = c .before .before .before .before .before .before .before .before .before .before .before .before .before .before .pre .1; low = omega (arith, c .before .before .before .before .before .before .before .before .before .before .wide .ensures .0, c .before .before .before .before .before .before .before); high = omega (arith, c .before .before .before .before .before .before .before .before .before .before .wide .ensures .0, c .before .before .before .before .before .before .before); order = omega (arith, c .before .before .before .before .before .before .before .before .before .before .wide .ensures .0, c .before .before .before .before .before .before .before) }) (c .before .before .before .before .before .wide2 .ensures .0) (c .before .before .before .before .is-class .ensures) (c .before .before .before .if4 .left) (c .before .is-name .ensures) (c .if5 .taken)
 
 -- src/labels.rt:78:6
-name-used-requires : tie.Need-name-used-requires
-name-used-requires c κs = search needs
+part-used-requires : tie.Need-part-used-requires
+part-used-requires c κs = (omega arith, search needs)
 
 -- src/labels.rt:57:1
 returns-6 : tie.Need-returns-6
-returns-6 c = label-used _ _ (record { highest = c .before .before .before .before .before .before .before .before .before .before .before .before .before .before .before .pre .1; low = omega (arith, c .before .before .before .before .before .before .before .before .before .before .before .wide .ensures .0, c .before .before .before .before .before .before .before .before); high = omega (arith, c .before .before .before .before .before .before .before .before .before .before .before .wide .ensures .0, c .before .before .before .before .before .before .before .before); order = omega (arith, c .before .before .before .before .before .before .before .before .before .before .before .wide .ensures .0, c .before .before .before .before .before .before .before .before) }) (c .before .before .before .before .before .before .wide2 .ensures .0) (c .before .before .before .before .before .is-class .ensures) (c .before .before .before .before .if4 .left) (c .before .before .is-name .ensures) (c .before .if5 .left) (c .name-used .ensures)
+returns-6 c = label-used _ _ (record { highest = c .before .before .before .before .before .before .before .before .before .before .before .before .before .before .before .pre .1; low = omega (arith, c .before .before .before .before .before .before .before .before .before .before .before .wide .ensures .0, c .before .before .before .before .before .before .before .before); high = omega (arith, c .before .before .before .before .before .before .before .before .before .before .before .wide .ensures .0, c .before .before .before .before .before .before .before .before); order = omega (arith, c .before .before .before .before .before .before .before .before .before .before .before .wide .ensures .0, c .before .before .before .before .before .before .before .before) }) (c .before .before .before .before .before .before .wide2 .ensures .0) (c .before .before .before .before .before .is-class .ensures) (c .before .before .before .before .if4 .left) (c .before .before .is-name .ensures) (c .before .if5 .left) (c .part-used .ensures ∙ names-are _ _ _)
 
 pub good-label-spec : {M : Type 1} → statement M
 good-label-spec =
@@ -92,5 +93,5 @@ good-label-spec =
     part-name-end
     is-name-requires
     returns-5
-    name-used-requires
+    part-used-requires
     returns-6)

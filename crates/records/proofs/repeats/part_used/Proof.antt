@@ -1,78 +1,78 @@
 use mathlib.Core.Path.{refl}
 use native.Mathlib.Omega.{arith}
 use borrow.Author.Needs.{needs}
-use Rattle.records.specs.Labels.{nameUsed, labelsAt, Search, search-room, search-within, search-found, search-next, search-done}
-use Rattle.records.proofs.labels.name_used.Statement.{statement}
-use Rattle.records.proofs.labels.name_used.Tie as tie
-use Rattle.records.proofs.labels.name_used.Reads as reads
-use Rattle.records.proofs.labels.name_used.Lts as lts
+use Rattle.records.specs.Repeats.{anyRecord, Search, search-head, search-room, search-within, search-found, search-next, search-done}
+use Rattle.records.proofs.repeats.part_used.Statement.{statement}
+use Rattle.records.proofs.repeats.part_used.Tie as tie
+use Rattle.records.proofs.repeats.part_used.Reads as reads
+use Rattle.records.proofs.repeats.part_used.Lts as lts
 use Rattle.shapes.proofs.fields.word.Reads as word-reads
 use Rattle.shapes.proofs.names.same_bytes.Reads as same-bytes-reads
 
 abbrev Inv-loop : tie.InvT-loop
-Inv-loop bytes count name rest₀ left₀ rest left = Search name left rest (nameUsed (labelsAt count bytes) name)
+Inv-loop bytes count start part rest₀ left₀ rest left = Search start part left rest (anyRecord start part count bytes)
 
 abbrev μ-loop : tie.MeasureT-loop
-μ-loop bytes count name rest₀ left₀ rest left = left
+μ-loop bytes count start part rest₀ left₀ rest left = left
 
--- src/labels.rt:35:5
+-- src/repeats.rt:35:5
 loop-holds : tie.Need-loop-holds Inv-loop μ-loop
-loop-holds c = record { records = c .before .before .pre; here = refl }
+loop-holds c = record { low = c .before .before .pre .0; records = c .before .before .pre .1; here = refl }
 
--- src/labels.rt:36:13
+-- src/repeats.rt:36:13
 word-requires : tie.Need-word-requires Inv-loop μ-loop
-word-requires c κs = let a = search-room (c .before .loop .inv) (c .loop-test .taken) in let b = search-within (c .before .loop .inv) (c .loop-test .taken) in omega arith
+word-requires c κs = search-head (c .before .loop .inv) (c .loop-test .taken)
 
--- src/labels.rt:37:23
+-- src/repeats.rt:37:23
 sub-same-bytes : tie.Need-sub-same-bytes Inv-loop μ-loop
 sub-same-bytes c = omega (arith, search-room (c .before .before .loop .inv) (c .before .loop-test .taken), c .word .ensures .0)
 
--- src/labels.rt:37:23
+-- src/repeats.rt:37:23
 part-same-bytes-start : tie.Need-part-same-bytes-start Inv-loop μ-loop
 part-same-bytes-start c = omega (arith, search-room (c .before .before .loop .inv) (c .before .loop-test .taken), c .word .ensures .0)
 
--- src/labels.rt:37:23
+-- src/repeats.rt:37:23
 part-same-bytes-end : tie.Need-part-same-bytes-end Inv-loop μ-loop
 part-same-bytes-end c = omega (arith, search-within (c .before .before .loop .inv) (c .before .loop-test .taken), c .word .ensures .0)
 
--- src/labels.rt:37:12
+-- src/repeats.rt:37:12
 same-bytes-requires : tie.Need-same-bytes-requires Inv-loop μ-loop
 same-bytes-requires c κs = search needs
 
--- src/labels.rt:38:13
+-- src/repeats.rt:38:13
 returns : tie.Need-returns Inv-loop μ-loop
 returns c = search-found (c .before .before .before .before .before .loop .inv) (c .before .before .before .before .loop-test .taken) (c .before .before .before .word .ensures .0) (c .before .same-bytes .ensures) (c .if1 .taken)
 
--- src/labels.rt:40:16
+-- src/repeats.rt:40:16
 sub-rest : tie.Need-sub-rest Inv-loop μ-loop
 sub-rest c = omega (arith, search-within (c .before .before .before .before .before .loop .inv) (c .before .before .before .before .loop-test .taken), c .before .before .before .word .ensures .0)
 
--- src/labels.rt:40:16
+-- src/repeats.rt:40:16
 part-rest-start : tie.Need-part-rest-start Inv-loop μ-loop
 part-rest-start c = omega (arith, search-within (c .before .before .before .before .before .loop .inv) (c .before .before .before .before .loop-test .taken), c .before .before .before .word .ensures .0)
 
--- src/labels.rt:40:16
+-- src/repeats.rt:40:16
 part-rest-end : tie.Need-part-rest-end Inv-loop μ-loop
 part-rest-end c = omega arith
 
--- src/labels.rt:41:9
+-- src/repeats.rt:41:9
 sub-left : tie.Need-sub-left Inv-loop μ-loop
 sub-left c = omega arith
 
--- src/labels.rt:35:5
+-- src/repeats.rt:35:5
 loop-less : tie.Need-loop-less Inv-loop μ-loop
 loop-less c = omega arith
 
--- src/labels.rt:35:5
+-- src/repeats.rt:35:5
 loop-again : tie.Need-loop-again Inv-loop μ-loop
 loop-again c = search-next (c .before .before .before .before .before .before .loop .inv) (c .before .before .before .before .before .loop-test .taken) (c .before .before .before .before .word .ensures .0) (c .before .before .same-bytes .ensures) (c .before .if1 .left)
 
--- src/labels.rt:29:1
+-- src/repeats.rt:29:1
 returns-2 : tie.Need-returns-2 Inv-loop μ-loop
 returns-2 c = search-done (c .before .loop .inv) (c .loop-test .left)
 
-pub name-used-spec : {M : Type 1} → statement M
-name-used-spec =
+pub part-used-spec : {M : Type 1} → statement M
+part-used-spec =
     tie.close
     (tie.spec
     Inv-loop
