@@ -14,8 +14,11 @@ use Rattle.meaning.specs.Trees.{Table, IsTree, Child, attributes, others, Equal
 use Rattle.theory_trees.specs.Children.{attribute-child, other-child}
 use Rattle.theory_trees.specs.Laws.{equal-label}
 use Rattle.theory_trees.specs.Matching.{perm-mem}
-use Rattle.tree_classes.specs.Leaders.{Weighed}
 use Rattle.tree_weights.specs.Sums.{total, total-set, total-more, total-other, sumOf, sum-order, childOf, children-split}
+
+-- Value-equal nodes have equal weights
+pub record Weighed (κ : ℕ → Class) (t : Table) (weight : List ℕ) : Type 0 where
+  pub equal : (x y : ℕ) → x < t .size → y < t .size → Equal κ t x y → getD weight x 0 ≡ getD weight y 0
 
 abbrev pub range : ℕ
 range = 4294967296

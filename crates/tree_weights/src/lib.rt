@@ -12,8 +12,7 @@ ghost use mathlib.Core.Path.{_≡_};
 ghost use Prim.Native.Nat.{ℕ, _<_};
 ghost use lib.ListN.{length, getD};
 ghost use Rattle.tree_nodes.specs.FileTable.{fileTable, classBy, TreeBytes};
-ghost use Rattle.tree_classes.specs.Leaders.{Weighed};
-ghost use Rattle.tree_weights.specs.Weights.{mix, weightOf};
+ghost use Rattle.tree_weights.specs.Weights.{Weighed, mix, weightOf};
 
 // A label stands above two bytes of the value; a value has up to four, a weight has 32 bits.
 const VALUES: usize = 65536;
