@@ -20,6 +20,49 @@ pub hung-lists : (t : Table) (path from first next : List ℕ) → Hung t path f
 hung-lists t path from first next h =
     record { firsts = h .firsts; nexts = λ x g p b f. h .nexts x p b (h .above x p b (λ e. absurd (omega arith)) .0) }
 
+-- Not several: no node but the first one hangs under a
+pub record Several (count : ℕ) (from first : List ℕ) (a : ℕ) (r : Bool) : Type 0 where
+  pub one : r ≡ false → (x : ℕ) → 0 < x → x < count → getD from x 0 ≡ a → x ≡ getD first a 0
+
+module _ (count : ℕ) (from first next : List ℕ) (lists : HungFrom count from first next 1) (few : count ≤ 4096) (a : ℕ) (inside : a < count) (x : ℕ)
+    (is : x ≡ getD first a 0) where
+  child : (y : ℕ) → 0 < y → y < count → getD from y 0 ≡ a → Child (byClass count from) a y
+  unfolding byClass
+  child y p i e = record { notRoot = p; inside = i; below = e }
+
+  pub several-none : x ≡ 0 → Several count from first a false
+  several-none z =
+      record {
+        one = λ f y p i e.
+            absurd (let l = lists .firsts a inside .skipped y (omega arith) (child y p i e) in let l0 = l .0 in omega arith);
+      }
+
+  pub first-inside : 0 < x → x < count
+  unfolding byClass
+  first-inside p = let c = lists .firsts a inside .child (omega arith) .0 .inside in omega arith
+
+  pub several-by-next : (m : ℕ) (r : Bool) → (x ≡ 0 → ⊥) → m ≡ getD next x 0 → (r ≡ false → m ≡ 0) → Several count from first a r
+  unfolding byClass
+  several-by-next m r q e last =
+      record { one = λ f y p i g. go (last f) y p i g (lists .firsts a inside .skipped y (omega arith) (child y p i g)) (ℕ-discrete y x) }
+    where
+      c : Child (byClass count from) a (getD first a 0)
+      c = lists .firsts a inside .child (omega arith) .0
+
+      above : getD from x 0 ≡ a
+      above = ap (λ (k : ℕ). getD from k 0) is ∙ c .below
+
+      go : m ≡ 0 → (y : ℕ) → 0 < y → y < count → getD from y 0 ≡ a → (0 < getD first a 0) × (getD first a 0 ≤ y) → Dec (y ≡ x) → y ≡ getD first a 0
+      go z y p i f l (yes d) = d ∙ is
+      go z y p i f l (no d) =
+          let l1 = l .1 in
+          let j = c .inside in
+          let b = above in
+          let r = lists .nexts x (omega arith) (omega arith) (omega arith) (omega arith) .skipped y (omega arith)
+          (subst (λ (k : ℕ). Child (byClass count from) k y) (sym above) (child y p i f)) in
+          let r0 = r .0 in
+          absurd (omega arith)
+
 -- Below n, each target has at most one node
 pub record SingleTo (count : ℕ) (from group first : List ℕ) (n : ℕ) : Type 0 where
   pub one : (a : ℕ) → a < n → getD group a 0 < count → (x : ℕ) → 0 < x → x < count → getD from x 0 ≡ a → x ≡ getD first a 0
@@ -40,42 +83,9 @@ module _ (count : ℕ) (from group first : List ℕ) where
   pub single-other : (n g : ℕ) → g ≡ getD group n 0 → count ≤ g → SingleTo count from group first n → SingleTo count from group first (n + 1)
   single-other n g e h s = single-so n s (λ k. absurd (omega arith))
 
-  module _ (next : List ℕ) (lists : HungFrom count from first next 1) (few : count ≤ 4096) (n : ℕ) (inside : n < count) (x : ℕ)
-      (is : x ≡ getD first n 0) where
-    child : (y : ℕ) → 0 < y → y < count → getD from y 0 ≡ n → Child (byClass count from) n y
-    unfolding byClass
-    child y p i e = record { notRoot = p; inside = i; below = e }
-
-    pub single-empty : x ≡ 0 → SingleTo count from group first n → SingleTo count from group first (n + 1)
-    single-empty z s =
-        single-so n s (λ k y p i e. absurd (let l = lists .firsts n inside .skipped y (omega arith) (child y p i e) in let l0 = l .0 in omega arith))
-
-    pub first-inside : 0 < x → x < count
-    unfolding byClass
-    first-inside p = let c = lists .firsts n inside .child (omega arith) .0 .inside in omega arith
-
-    pub single-last : (m : ℕ) → (x ≡ 0 → ⊥) → m ≡ getD next x 0 → m ≡ 0 → SingleTo count from group first n
-        → SingleTo count from group first (n + 1)
-    unfolding byClass
-    single-last m q e z s =
-        single-so n s (λ k y p i f. go y p i f (lists .firsts n inside .skipped y (omega arith) (child y p i f)) (ℕ-discrete y x))
-      where
-        c : Child (byClass count from) n (getD first n 0)
-        c = lists .firsts n inside .child (omega arith) .0
-
-        above : getD from x 0 ≡ n
-        above = ap (λ (k : ℕ). getD from k 0) is ∙ c .below
-
-        go : (y : ℕ) → 0 < y → y < count → getD from y 0 ≡ n → (0 < getD first n 0) × (getD first n 0 ≤ y) → Dec (y ≡ x) → y ≡ getD first n 0
-        go y p i f l (yes d) = d ∙ is
-        go y p i f l (no d) =
-            let l1 = l .1 in
-            let j = c .inside in
-            let a = above in
-            let r = lists .nexts x (omega arith) (omega arith) (omega arith) (omega arith) .skipped y (omega arith)
-            (subst (λ (k : ℕ). Child (byClass count from) k y) (sym above) (child y p i f)) in
-            let r0 = r .0 in
-            absurd (omega arith)
+  pub single-more : (n : ℕ) (r : Bool) → Several count from first n r → r ≡ false → SingleTo count from group first n
+      → SingleTo count from group first (n + 1)
+  single-more n r v e s = single-so n s (λ k. v .one e)
 
 -- what `is_single` says: yes is sure
 pub record Surely (P : Type 0) (r : Bool) : Type 0 where

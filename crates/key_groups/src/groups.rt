@@ -27,11 +27,23 @@ ghost use Rattle.tree_rows.specs.Prepared.{Prepared};
 ghost use Rattle.key_groups.specs.GoodKey.{GoodKey};
 ghost use Rattle.key_groups.specs.Hung.{HungFrom};
 ghost use Rattle.key_groups.specs.Groups.{Grouped};
-ghost use Rattle.key_groups.specs.Adopting.{Surely, SingleTo, NumbersStay, AdoptedTo};
+ghost use Rattle.key_groups.specs.Adopting.{Surely, Several, SingleTo, NumbersStay, AdoptedTo};
 ghost use Rattle.key_groups.specs.Chains.{TopsStay, ChainStays, ClearTo, SortedBy};
 
 // More than there can be nodes that share a number.
 const MANY: usize = 16777217;
+
+// Key path i reaches several nodes from a.
+fn is_several(hung: &[u16; HUNG], i: usize, count: usize, a: usize) -> bool
+    requires { ⌜ (i < 4) × (count ≤ 4096) × (a < count) × HungFrom count (row (12288 * i) (now hung)) (row (12288 * i + 4096) (now hung)) (row (12288 * i + 8192) (now hung)) 1 ⌝ }
+    ensures { λ r. ⌜ Several count (row (12288 * i) (now (hung .entry))) (row (12288 * i + 4096) (now (hung .entry))) a r ⌝ }
+{
+    let x = first_hung(hung, i, a);
+    if x == 0 {
+        return false;
+    }
+    next_hung(hung, i, x) != 0
+}
 
 // No target has two nodes of key path i.
 fn is_single(hung: &[u16; HUNG], sorted: &[u16; SORTED], i: usize, count: usize) -> bool
@@ -41,15 +53,10 @@ fn is_single(hung: &[u16; HUNG], sorted: &[u16; SORTED], i: usize, count: usize)
     let mut a = 0;
     while a < count {
         if entry(sorted, GROUP, a) < count {
-            let x = first_hung(hung, i, a);
-            if x != 0 {
-                if next_hung(hung, i, x) != 0 {
-                    return false;
-                }
-                a += 1;
-            } else {
-                a += 1;
+            if is_several(hung, i, count, a) {
+                return false;
             }
+            a += 1;
         } else {
             a += 1;
         }

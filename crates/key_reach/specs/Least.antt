@@ -13,7 +13,7 @@ use Rattle.theory_paths.specs.Words.{Word, word-append}
 use Rattle.theory_trees.specs.Below.{ParentsSmaller, down-append, down-child, down-greater}
 use Rattle.theory_trees.specs.Reach.{ReachedWay, reached-by, reached-word, reached-run, reached-self, reached-empty, reached-append-split}
 use Rattle.key_reach.specs.Above.{Above, above-parent, above-root}
-use Rattle.key_reach.specs.Tabled.{Tabled, tabled-all}
+use Rattle.key_reach.specs.Tabled.{Tabled}
 
 -- r stands at a node that reaches v by the path
 pub record Handed (t : Table) (path from : List ℕ) (v r : ℕ) : Type 0 where
@@ -162,10 +162,6 @@ least-part t path from mid to small s h e a b =
     subst (λ (p : List ℕ). Least t p from to)
     (sym (drop-cons path 0 0 h ∙ ap (λ (r : List ℕ). getD path 0 0 ∷ r) (sym (part-to-end path 1))))
     (least-on t from small (getD path 0 0) (take (length path - 1) (drop 1 path)) mid to (subst (λ (k : ℕ). Least t (k ∷ []) from mid) e a) b)
-
-pub least-all : (t : Table) (path from to : List ℕ) (n : ℕ) → t .size ≤ n → Tabled (LeastAt t path from) to n → Least t path from to
-unfolding Least
-least-all t path from to n h l = tabled-all (LeastAt t path from) to n (t .size) h l
 
 pub least-long : (t : Table) (path from to : List ℕ) → Least t path from to → length to ≡ 4096
 unfolding Least

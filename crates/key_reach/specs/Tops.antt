@@ -125,13 +125,6 @@ module _ {t : Table} {context target : List ℕ} (small : ParentsSmaller t) (som
       → Reached t q target b → r ≡ s
   tops-equal x y c d e = let h = top-below x y c d e in let g = top-below y x c e d in omega arith
 
--- one law for each return of `contexts`
-pub own-context : (t : Table) (path : List ℕ) (v : ℕ) → Reached t 0 path v → OwnAt t path v v
-own-context t path v r = record { yes = λ h. (r, refl); no = λ h. refl }
-
-pub own-none : (t : Table) (path : List ℕ) (v : ℕ) → (Reached t 0 path v → ⊥) → OwnAt t path v 4096
-own-none t path v n = record { yes = λ h. absurd (omega arith); no = λ h. absurd (n h) }
-
 pub tops-at : (t : Table) (context target tops : List ℕ) → Tops t context target tops → (a : ℕ) → a < t .size
     → TopAt t context target a (getD tops a 0)
 unfolding Tops

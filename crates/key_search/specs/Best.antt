@@ -14,7 +14,6 @@ use Rattle.theory_trees.specs.Reach.{reached-inside}
 use Rattle.tree_nodes.specs.Decides.{Decides}
 use Rattle.key_reach.specs.Tops.{Tops, tops-at}
 use Rattle.key_groups.specs.Agreeing.{Agreeing, swap-agreeing}
-use Rattle.key_groups.specs.Groups.{Grouped}
 
 -- b is the least target behind a that agrees with it; 4,096 where there is none
 pub record MateIs (κ : ℕ → Class) (t : Table) (key : Key) (tops : List ℕ) (a b : ℕ) : Type 0 where
@@ -207,11 +206,6 @@ module _ (κ : ℕ → Class) (t : Table) (key : Key) (tops : List ℕ) (tree : 
   pub best-later : (own : ℕ) → own ≡ getD tops n 0 → q ≤ own → Best κ t key tops (n + 1) q a b
   best-later own e h =
       best-pass κ t key tops n q a b s (λ p d k g. best-lower κ t key tops n q a b (s .passed) (omega arith) p d (has-top p d g))
-
-  pub best-alone : (group : List ℕ) (r : ℕ) → r ≡ getD group n 0 → t .size ≤ r → Grouped κ t key group → Best κ t key tops (n + 1) q a b
-  best-alone group r e h grouped =
-      best-pass κ t key tops n q a b s
-      (λ p d k g. absurd (let l = grouped .some p n d g (λ z. omega arith) in omega arith))
 
   pub best-unmated : (m : ℕ) → 4096 ≤ m → MateIs κ t key tops n m → Best κ t key tops (n + 1) q a b
   best-unmated m h w =

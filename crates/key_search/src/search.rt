@@ -14,7 +14,7 @@ use shapes::keys::context;
 use shapes::keys::target;
 use tree_nodes::fields::NODES;
 use tree_nodes::fields::size;
-use tree_nodes::links::at;
+use tree_nodes::tables::at;
 use tree_rows::hung::HUNG;
 use tree_rows::rows::ROWS;
 ghost use mathlib.Core.Path.{_≡_};
@@ -111,16 +111,12 @@ fn first_pair(
     while a < count {
         let own = entry(sorted, TOP, a);
         if own < best {
-            if entry(sorted, GROUP, a) < count {
-                let b = mate_of(tree, classes, rows, hung, body, sorted, memo, pivot, a);
-                if b < NODES {
-                    best = own;
-                    first = a;
-                    second = b;
-                    a += 1;
-                } else {
-                    a += 1;
-                }
+            let b = mate_of(tree, classes, rows, hung, body, sorted, memo, pivot, a);
+            if b < NODES {
+                best = own;
+                first = a;
+                second = b;
+                a += 1;
             } else {
                 a += 1;
             }

@@ -45,7 +45,16 @@ fn keep_accepted(question: &[u8], tree: &[u8], classes: &[u8; 256], second: bool
     let mut memo = [0u16; MEMO];
     prepare(tree, classes, &mut rows);
     let body = body_at_front(question);
-    if breaks(tree, classes, &rows, body, &mut top, &mut hung, &mut sorted, &mut memo) {
+    if breaks(
+        tree,
+        classes,
+        &rows,
+        body,
+        &mut top,
+        &mut hung,
+        &mut sorted,
+        &mut memo,
+    ) {
         return Keeping::Broken;
     }
     Keeping::Kept
@@ -118,7 +127,16 @@ fn check_accepted(
         });
     }
     let body = body_at_front(question);
-    if breaks(tree, classes, &rows, body, &mut top, &mut hung, &mut sorted, &mut memo) {
+    if breaks(
+        tree,
+        classes,
+        &rows,
+        body,
+        &mut top,
+        &mut hung,
+        &mut sorted,
+        &mut memo,
+    ) {
         return Checking::Accepted;
     }
     Checking::Refused(Refusal {

@@ -8,8 +8,8 @@ use Rattle.row_classes.proofs.chain.Statement.{statement}
 use Rattle.row_classes.proofs.chain.Tie as tie
 use Rattle.row_classes.proofs.chain.Reads as reads
 use Rattle.row_classes.proofs.chain.Lts as lts
-use Rattle.tree_nodes.proofs.links.at.Reads as at-reads
-use Rattle.tree_nodes.proofs.links.blank.Reads as blank-reads
+use Rattle.tree_nodes.proofs.tables.at.Reads as at-reads
+use Rattle.tree_nodes.proofs.tables.blank.Reads as blank-reads
 
 abbrev Inv-loop : tie.InvT-loop
 Inv-loop class count last₀ same₀ x₀ last same x = (0 < x) × (x ≤ count) × (length last ≡ 4096) × (length same ≡ 4096) × LinkedFrom (byClass count class) x last same

@@ -12,7 +12,7 @@ use Rattle.row_classes.proofs.chain_classes.Statement.{statement}
 use Rattle.row_classes.proofs.chain_classes.Tie as tie
 use Rattle.row_classes.proofs.chain_classes.Reads as reads
 use Rattle.row_classes.proofs.chain_classes.Lts as lts
-use Rattle.tree_nodes.proofs.links.blank.Reads as blank-reads
+use Rattle.tree_nodes.proofs.tables.blank.Reads as blank-reads
 use Rattle.tree_rows.proofs.rows.class_of.Reads as class-of-reads
 
 abbrev Inv-loop : tie.InvT-loop

@@ -19,7 +19,7 @@ use Rattle.row_classes.proofs.leader.Reads as leader-reads
 use Rattle.row_classes.proofs.sort.Reads as sort-reads
 use Rattle.row_classes.proofs.chain.Reads as chain-reads
 use Rattle.tree_nodes.proofs.fields.size.Reads as size-reads
-use Rattle.tree_nodes.proofs.links.blank.Reads as blank-reads
+use Rattle.tree_nodes.proofs.tables.blank.Reads as blank-reads
 
 abbrev Inv-loop : tie.InvT-loop
 Inv-loop tree classes weight rows₀ count bucket chained marks₀ x₀ rows marks x = Ready classes tree (row 8192 rows₀) (row 12288 rows₀) × Weighed (classBy classes) (fileTable tree) weight

@@ -10,7 +10,7 @@ use Rattle.row_classes.proofs.leader.Tie as tie
 use Rattle.row_classes.proofs.leader.Reads as reads
 use Rattle.row_classes.proofs.leader.Lts as lts
 use Rattle.row_classes.proofs.alike.Reads as alike-reads
-use Rattle.tree_nodes.proofs.links.at.Reads as at-reads
+use Rattle.tree_nodes.proofs.tables.at.Reads as at-reads
 use Rattle.tree_rows.proofs.rows.class_of.Reads as class-of-reads
 
 abbrev Inv-loop : tie.InvT-loop

@@ -6,7 +6,7 @@ use Rattle.row_classes.proofs.lowest.Statement.{statement}
 use Rattle.row_classes.proofs.lowest.Tie as tie
 use Rattle.row_classes.proofs.lowest.Reads as reads
 use Rattle.row_classes.proofs.lowest.Lts as lts
-use Rattle.tree_nodes.proofs.links.blank.Reads as blank-reads
+use Rattle.tree_nodes.proofs.tables.blank.Reads as blank-reads
 use Rattle.tree_rows.proofs.rows.class_of.Reads as class-of-reads
 
 abbrev Inv-loop : tie.InvT-loop

@@ -7,7 +7,7 @@ use Rattle.row_classes.proofs.sort.Tie as tie
 use Rattle.row_classes.proofs.sort.Reads as reads
 use Rattle.row_classes.proofs.sort.Lts as lts
 use Rattle.row_classes.proofs.wide.Reads as wide-reads
-use Rattle.tree_nodes.proofs.links.blank.Reads as blank-reads
+use Rattle.tree_nodes.proofs.tables.blank.Reads as blank-reads
 
 abbrev Inv-loop : tie.InvT-loop
 Inv-loop weight count bucket₀ x₀ bucket x = (x ≤ count) × Sorted weight bucket count x

@@ -10,35 +10,35 @@ use Rattle.row_classes.proofs.prepare.Reads as prepare-reads
 use Rattle.tree_checks.proofs.keys.breaks.Reads as breaks-reads
 use Rattle.tree_checks.proofs.keys.first_broken.Reads as first-broken-reads
 
--- src/lib.rt:100:5
+-- src/lib.rt:109:5
 prepare-requires : tie.Need-prepare-requires
 prepare-requires c κs = (search (asked-tree), search needs)
 
--- src/lib.rt:101:9
+-- src/lib.rt:110:16
 record-at-requires : tie.Need-record-at-requires
 record-at-requires c κs = search needs
 
--- src/lib.rt:102:9
+-- src/lib.rt:111:18
 first-broken-requires : tie.Need-first-broken-requires
 first-broken-requires c κs = (search needs, search (counted-bodies), record { tops = search needs; hangs = search needs; sorts = search needs; memos = search needs })
 
--- src/lib.rt:114:9
+-- src/lib.rt:123:9
 returns : tie.Need-returns
 returns c = search (breaks-key)
 
--- src/lib.rt:120:9
+-- src/lib.rt:129:16
 body-at-front-requires : tie.Need-body-at-front-requires
 body-at-front-requires c κs = search needs
 
--- src/lib.rt:121:8
+-- src/lib.rt:130:8
 breaks-requires : tie.Need-breaks-requires
 breaks-requires c κs = (search needs, search (asked-key), search needs)
 
--- src/lib.rt:122:9
+-- src/lib.rt:140:9
 returns-2 : tie.Need-returns-2
 returns-2 c = counterexample (c .before .before .before .before .before .before .before .before .before .before .before .before .before .before .before .before .before .before .before .before .before .pre .1) (c .before .before .before .before .before .before .before .before .before .before .before .before .before .before .before .record-at .ensures) (c .before .before .before .before .before .before .before .before .before .before .before .before .before .before .before .before .before .before .before .before .before .pre .0) (c .before .before .before .before .before .before .before .before .before .first-broken .ensures .0) (c .before .before .before .before .before .before .before .before .if1 .left) (c .before .before .before .before .before .before .before .body-at-front .ensures) (c .before .breaks .ensures .0) (c .if2 .taken)
 
--- src/lib.rt:83:1
+-- src/lib.rt:92:1
 returns-3 : tie.Need-returns-3
 returns-3 c = keeps-all (c .before .before .before .before .before .before .before .before .before .before .before .before .before .before .before .before .before .before .before .before .before .pre .1) (c .before .before .before .before .before .before .before .before .before .before .before .before .before .before .before .record-at .ensures) (c .before .before .before .before .before .before .before .before .before .before .before .before .before .before .before .before .before .before .before .before .before .pre .0) (c .before .before .before .before .before .before .before .before .before .first-broken .ensures .0) (c .before .before .before .before .before .before .before .before .if1 .left) (c .before .before .before .before .before .before .before .body-at-front .ensures) (c .before .breaks .ensures .0) (c .if2 .left)
 

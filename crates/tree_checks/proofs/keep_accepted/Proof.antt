@@ -12,7 +12,7 @@ use Rattle.tree_checks.proofs.keys.breaks.Reads as breaks-reads
 prepare-requires : tie.Need-prepare-requires
 prepare-requires c κs = (search (asked-tree), search needs)
 
--- src/lib.rt:47:9
+-- src/lib.rt:47:16
 body-at-front-requires : tie.Need-body-at-front-requires
 body-at-front-requires c κs = search needs
 
@@ -20,7 +20,7 @@ body-at-front-requires c κs = search needs
 breaks-requires : tie.Need-breaks-requires
 breaks-requires c κs = (search needs, search (asked-key), record { tops = search needs; hangs = search needs; sorts = search needs; memos = search needs })
 
--- src/lib.rt:49:9
+-- src/lib.rt:58:9
 returns : tie.Need-returns
 returns c = search (tests-broken)
 

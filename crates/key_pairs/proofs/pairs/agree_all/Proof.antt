@@ -22,35 +22,35 @@ Inv-loop tree classes rows hung body memo₀ a b paths i₀ memo i = Hanging cla
 abbrev μ-loop : tie.MeasureT-loop
 μ-loop tree classes rows hung body memo₀ a b paths i₀ memo i = paths - i
 
--- src/pairs.rt:113:9
+-- src/pairs.rt:125:17
 count-requires : tie.Need-count-requires Inv-loop μ-loop
 count-requires c κs = c .before .before .pre .0 .0 .reads
 
--- src/pairs.rt:115:5
+-- src/pairs.rt:127:5
 loop-holds : tie.Need-loop-holds Inv-loop μ-loop
 loop-holds c = let p = c .before .before .before .pre in (p .0 .0, p .0 .1, p .0 .2, c .count .ensures .0, omega arith, p .1, refl, agree-none _ _ _ _ _)
 
--- src/pairs.rt:116:13
+-- src/pairs.rt:128:13
 agree-requires : tie.Need-agree-requires Inv-loop μ-loop
 agree-requires c κs = let i = c .before .before .loop .inv in let e = i .3 in ((i .0, omega arith, i .1, i .2), i .5)
 
--- src/pairs.rt:117:13
+-- src/pairs.rt:129:13
 returns : tie.Need-returns Inv-loop μ-loop
 returns c = let i = c .before .before .before .before .loop .inv in let f = i .0 .few in let e = i .3 in (agree-fails _ _ _ _ _ _ _ (omega arith) (c .before .agree .ensures .0) (not-true _ (c .if1 .taken)), c .before .agree .ensures .1, c .before .agree .ensures .2 ∙ i .6)
 
--- src/pairs.rt:119:9
+-- src/pairs.rt:131:9
 add-i : tie.Need-add-i Inv-loop μ-loop
 add-i c = record { fits = let i = c .before .before .before .before .loop .inv in let f = i .0 .few in let e = i .3 in omega arith }
 
--- src/pairs.rt:115:5
+-- src/pairs.rt:127:5
 loop-less : tie.Need-loop-less Inv-loop μ-loop
 loop-less c = omega arith
 
--- src/pairs.rt:115:5
+-- src/pairs.rt:127:5
 loop-again : tie.Need-loop-again Inv-loop μ-loop
 loop-again c = let i = c .before .before .before .before .loop .inv in let f = i .0 .few in let e = i .3 in (i .0, i .1, i .2, i .3, omega arith, c .before .agree .ensures .1, c .before .agree .ensures .2 ∙ i .6, agree-more _ _ _ _ _ _ _ (i .7) (c .before .agree .ensures .0) (not-false _ (c .if1 .left)))
 
--- src/pairs.rt:98:1
+-- src/pairs.rt:109:1
 returns-2 : tie.Need-returns-2 Inv-loop μ-loop
 returns-2 c = let i = c .before .loop .inv in let e = i .3 in (agree-all _ _ _ _ _ _ (omega arith) (i .7), i .5, i .6)
 

@@ -25,11 +25,11 @@ Inv-loop tree classes rows hung body memo₀ i b own y₀ memo y = Hanging class
 abbrev μ-loop : tie.MeasureT-loop
 μ-loop tree classes rows hung body memo₀ i b own y₀ memo y = left (fileTable tree .size) y
 
--- src/pairs.rt:49:9
+-- src/pairs.rt:49:15
 stamp-requires : tie.Need-stamp-requires Inv-loop μ-loop
 stamp-requires c κs = let i = c .before .before .pre .0 in let f = i .0 .few in let g = i .0 .prepared .tree .few in let h = i .1 in let k = i .2 in (omega arith, omega arith)
 
--- src/pairs.rt:50:9
+-- src/pairs.rt:50:17
 first-hung-requires : tie.Need-first-hung-requires Inv-loop μ-loop
 first-hung-requires c κs = let i = c .before .before .before .pre .0 in let f = i .0 .few in let g = i .0 .prepared .tree .few in let h = i .1 in let k = i .2 in (omega arith, omega arith)
 
@@ -37,7 +37,7 @@ first-hung-requires c κs = let i = c .before .before .before .pre .0 in let f =
 loop-holds : tie.Need-loop-holds Inv-loop μ-loop
 loop-holds c = let p = c .before .before .before .before .pre in let e = c .before .stamp .ensures .0 in (p .0 .0, p .0 .1, p .0 .2, e, p .1, refl, mark-start _ _ (keyIn (c .before .before .before .before .args .body .now) .paths) (p .0 .0 .few) _ _ _ (p .0 .1) e (p .0 .0 .prepared .tree .some) _ _ _ (p .0 .0 .lists .each _ (p .0 .1)) _ _ (p .0 .2) (c .first-hung .ensures .0))
 
--- src/pairs.rt:52:13
+-- src/pairs.rt:52:21
 class-of-requires : tie.Need-class-of-requires Inv-loop μ-loop
 class-of-requires c κs = let i = c .before .loop .inv in let g = i .0 .prepared .tree .few in let y = i .6 .inside in omega arith
 
@@ -57,7 +57,7 @@ mul-memo c = search needs
 element-write-memo : tie.Need-element-write-memo Inv-loop μ-loop
 element-write-memo c = let i = c .before .before .loop .inv in let g = i .0 .prepared .tree .few in let e = c .class-of .ensures .0 in let l = i .0 .prepared .classed .inside (c .before .before .loop .y) (i .6 .inside) in let m = i .4 .long in omega arith
 
--- src/pairs.rt:54:9
+-- src/pairs.rt:54:13
 next-hung-requires : tie.Need-next-hung-requires Inv-loop μ-loop
 next-hung-requires c κs = let i = c .before .before .loop .inv in let f = i .0 .few in let g = i .0 .prepared .tree .few in let h = i .1 in let y = i .6 .inside in (omega arith, omega arith)
 

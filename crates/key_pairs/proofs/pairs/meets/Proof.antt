@@ -27,11 +27,11 @@ Inv-loop tree classes rows hung body memo i a b wanted x₀ x = Hanging classes 
 abbrev μ-loop : tie.MeasureT-loop
 μ-loop tree classes rows hung body memo i a b wanted x₀ x = left (fileTable tree .size) x
 
--- src/pairs.rt:74:9
+-- src/pairs.rt:74:18
 stamp-requires : tie.Need-stamp-requires Inv-loop μ-loop
 stamp-requires c κs = let i = c .before .before .pre .0 in let f = i .0 .few in let g = i .0 .prepared .tree .few in let h = i .1 in let k = i .3 in (omega arith, omega arith)
 
--- src/pairs.rt:75:9
+-- src/pairs.rt:75:17
 first-hung-requires : tie.Need-first-hung-requires Inv-loop μ-loop
 first-hung-requires c κs = let i = c .before .before .before .pre .0 in let f = i .0 .few in let g = i .0 .prepared .tree .few in let h = i .1 in let k = i .2 in let l = i .3 in (omega arith, omega arith)
 
@@ -39,7 +39,7 @@ first-hung-requires c κs = let i = c .before .before .before .pre .0 in let f =
 loop-holds : tie.Need-loop-holds Inv-loop μ-loop
 loop-holds c = let p = c .before .before .before .before .pre in let e = c .before .stamp .ensures .0 in (p .0 .0, p .0 .1, p .0 .2, p .0 .3, e, p .1, meet-start _ _ (keyIn (c .before .before .before .before .args .body .now) .paths) (p .0 .0 .few) _ _ _ (p .0 .1) e (p .0 .0 .prepared .tree .some) _ _ _ (p .0 .0 .lists .each _ (p .0 .1)) _ _ _ (let u = p .0 .2 in let v = p .0 .3 in omega arith) (c .first-hung .ensures .0))
 
--- src/pairs.rt:77:13
+-- src/pairs.rt:77:21
 class-of-requires : tie.Need-class-of-requires Inv-loop μ-loop
 class-of-requires c κs = let i = c .before .loop .inv in let g = i .0 .prepared .tree .few in let y = i .6 .inside in omega arith
 
@@ -52,7 +52,7 @@ returns : tie.Need-returns Inv-loop μ-loop
 returns c = let i = c .before .before .before .before .loop .inv in let n : 0 < c .before .before .before .before .loop .x = (let m = c .before .before .before .loop-test .taken in omega arith) in
     meet-found _ _ (keyIn (c .before .before .before .before .before .before .before .before .before .args .body .now) .paths) (i .0 .few) _ _ _ (i .1) (i .4) (i .0 .prepared .tree .some) _ _ _ (i .0 .lists .each _ (i .1)) _ (bytes-tree (i .0 .prepared .tree)) (i .0 .prepared .tree .few) (i .0 .prepared .classed) (simple-at _ (i .0 .simples) _ (i .1)) _ (let u = i .2 in let v = i .3 in omega arith) (i .3) _ (c .before .before .before .before .loop .x) (c .before .before .class-of .result) _ n (c .before .before .class-of .ensures .0) (c .before .recall .ensures .0) (c .if1 .taken) (i .5) (i .6)
 
--- src/pairs.rt:81:9
+-- src/pairs.rt:81:13
 next-hung-requires : tie.Need-next-hung-requires Inv-loop μ-loop
 next-hung-requires c κs = let i = c .before .before .before .before .loop .inv in let f = i .0 .few in let g = i .0 .prepared .tree .few in let h = i .1 in let y = i .6 .inside in (omega arith, omega arith)
 

@@ -26,33 +26,33 @@ Inv-loop tree classes rows hung body sorted memo₀ pivot a least₀ x₀ memo l
 abbrev μ-loop : tie.MeasureT-loop
 μ-loop tree classes rows hung body sorted memo₀ pivot a least₀ x₀ memo least x = left (fileTable tree .size) x
 
--- src/mates.rt:133:9
+-- src/mates.rt:131:17
 first-hung-requires : tie.Need-first-hung-requires Inv-loop μ-loop
 first-hung-requires c κs = let p = c .before .before .pre in let f = p .0 .0 .hanging .prepared .tree .few in let i = p .0 .1 in (pivot-few (p .0 .0), omega arith)
 
--- src/mates.rt:134:5
+-- src/mates.rt:132:5
 loop-holds : tie.Need-loop-holds Inv-loop μ-loop
 loop-holds c = let p = c .before .before .before .pre in let t = p .0 .0 .hanging .prepared .tree in (mating-start _ _ _ _ _ _ _ _ _ (t .few) (t .some) (lists-of (p .0 .0)) _ (p .0 .1) _ (c .first-hung .ensures .0), seen-start _ _ _ _ _ _ _ _ (p .1 .1), p .1 .0)
 
--- src/mates.rt:135:13
+-- src/mates.rt:134:20
 mate-from-requires : tie.Need-mate-from-requires Inv-loop μ-loop
 mate-from-requires c κs = let p = c .before .before .before .before .before .before .pre in let v = c .before .before .loop .inv in ((p .0 .0, p .0 .1, v .0 .inside, p .0 .2), (v .2, v .0 .so, v .1))
 
--- src/mates.rt:150:9
+-- src/mates.rt:136:13
 next-hung-requires : tie.Need-next-hung-requires Inv-loop μ-loop
 next-hung-requires c κs = let p = c .before .before .before .before .before .before .before .pre in let f = p .0 .0 .hanging .prepared .tree .few in let i = c .before .before .before .loop .inv .0 .inside in (pivot-few (p .0 .0), omega arith)
 
--- src/mates.rt:134:5
+-- src/mates.rt:132:5
 loop-less : tie.Need-loop-less Inv-loop μ-loop
 loop-less c = let p = c .before .before .before .before .before .before .before .before .pre in let t = p .0 .0 .hanging .prepared .tree in let v = c .before .before .before .before .loop .inv .0 in let o : 0 < c .before .before .before .before .loop .x = (let n = c .before .before .before .loop-test .taken in omega arith) in
     left-falls _ _ _ o (v .inside) (λ q. let b = listed-next _ _ _ _ _ (t .few) (t .some) (lists-of (p .0 .0)) _ _ _ (p .0 .1) o (v .inside) (v .down o) (c .next-hung .ensures .0) .behind q in omega arith)
 
--- src/mates.rt:134:5
+-- src/mates.rt:132:5
 loop-again : tie.Need-loop-again Inv-loop μ-loop
 loop-again c = let p = c .before .before .before .before .before .before .before .before .pre in let t = p .0 .0 .hanging .prepared .tree in let v = c .before .before .before .before .loop .inv .0 in let o : 0 < c .before .before .before .before .loop .x = (let n = c .before .before .before .loop-test .taken in omega arith) in let r = c .before .mate-from .ensures in
     (mating-next _ _ _ _ _ _ _ _ _ (t .few) (t .some) (lists-of (p .0 .0)) _ (p .0 .1) _ _ _ _ o v (r .1) (r .3) (r .4) (c .next-hung .ensures .0), r .2, r .0)
 
--- src/mates.rt:115:1
+-- src/mates.rt:114:1
 returns : tie.Need-returns Inv-loop μ-loop
 returns c = let p = c .before .before .before .before .before .pre in let s = p .0 .0 in let v = c .before .loop .inv in
     (mating-end _ _ _ _ _ _ _ _ _ _ _ (bytes-tree (s .hanging .prepared .tree)) (s .sorts .within) (good-simple (s .good) _ (s .sorts .within)) (s .hanging .prepared .classed) (s .sorts .grouped) (s .sorts .numbered) (lists-of s) _ _ _ (let e = c .loop-test .left in omega arith) (v .0), v .2, seen-end _ _ _ _ _ _ _ _ (v .1))

@@ -6,7 +6,7 @@ use Rattle.tree_checks.proofs.keys.breaks.Reads as reads
 use Rattle.tree_checks.proofs.keys.breaks.Lts as lts
 use Rattle.key_search.proofs.search.broken_key.Reads as broken-key-reads
 
--- src/keys.rt:32:9
+-- src/keys.rt:32:17
 broken-key-requires : tie.Need-broken-key-requires
 broken-key-requires c κs = search needs
 

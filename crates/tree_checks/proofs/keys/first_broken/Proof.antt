@@ -22,11 +22,11 @@ abbrev μ-loop : tie.MeasureT-loop
 loop-holds : tie.Need-loop-holds Inv-loop μ-loop
 loop-holds c = (kept-none _ _ _, search needs)
 
--- src/keys.rt:54:13
+-- src/keys.rt:54:20
 record-at-requires : tie.Need-record-at-requires Inv-loop μ-loop
 record-at-requires c κs = search needs
 
--- src/keys.rt:55:13
+-- src/keys.rt:55:20
 body-at-front-requires : tie.Need-body-at-front-requires Inv-loop μ-loop
 body-at-front-requires c κs = search needs
 
