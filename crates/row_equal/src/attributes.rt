@@ -62,7 +62,7 @@ fn pair_off(
         × (marked ≡ length (listOf (classBy (now classes)) (fileTable (now tree)) true y)) ⌝ }
     ensures { λ r. ⌜ PairedOff (classBy (now (classes .entry))) (fileTable (now (tree .entry))) (row 16384 (now (rows .entry))) x y (now (marks .exit)) r ⌝ }
 {
-    let mut paired = 0;
+    let mut paired: usize = 0;
     let mut i = seek(tree, classes, rows, first_child(rows, x), true);
     while i != 0 {
         let own = class_of(rows, i);

@@ -33,7 +33,7 @@ add-node-eq c = search needs
 
 -- src/lib.rt:94:5
 node-eq-requires : tie.Need-node-eq-requires
-node-eq-requires c κs = let p = c .before .before .before .before .before .pre in ((p .0 .0, p .1 .3), (p .1 .0, p .1 .1, omega arith, (let h = p .1 .2 in omega arith), p .1 .4))
+node-eq-requires c κs = let p = c .before .before .before .before .before .pre in let a = p .1 .0 in let b = p .1 .1 in let h = p .1 .2 in ((p .0 .0, p .1 .3), (omega arith, omega arith, omega arith, omega arith, p .1 .4))
 
 -- src/lib.rt:79:1
 returns-2 : tie.Need-returns-2

@@ -150,9 +150,9 @@ children-eq-node-eq-requires : (t : ℕ) → children-eq-lts.Need-node-eq-requir
   next-sibling-reads.Asked,
   next-sibling-reads.Learnt,
 ) (children-eq-at t) children-eq.Post children-eq-Inv-loop children-eq-μ-loop
-children-eq-node-eq-requires t c κs = let p = c .before .before .before .before .before .before .before .before .before .pre in let i = c .before .before .before .loop .inv in let u = i .2 in let w = i .3 in
+children-eq-node-eq-requires t c κs = let p = c .before .before .before .before .before .before .before .before .before .pre in let i = c .before .before .before .loop .inv in let u = i .2 in let w = i .3 in let f = i .4 .first .inside in let q = i .4 .second .inside in
     let g = kind-greater _ _ _ _ _ (i .0 .tree .above) (i .4 .first) (omega arith) in let h = kind-greater _ _ _ _ _ (i .0 .tree .above) (i .4 .second) (omega arith) in
-    (let e = p .0 in let k = p .1 .1 .0 in let f = i .4 .first .inside in omega arith, ((i .0, i .1), (i .4 .first .inside, i .4 .second .inside, omega arith, omega arith, i .5)))
+    (let e = p .0 in let k = p .1 .1 .0 in omega arith, ((i .0, i .1), (omega arith, omega arith, omega arith, omega arith, i .5)))
 
 -- src/lib.rt:87:13
 children-eq-returns-2 : (t : ℕ) → children-eq-lts.Need-returns-2 (
