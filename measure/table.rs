@@ -19,14 +19,18 @@ const IN_A_PORT: &str = "(port,(frame,{@seq}))";
 const BELOW_A_RUN: &str = "(run.port,(frame,{@seq}))";
 const IN_THE_TREE: &str = "(e,(port.frame,{@seq}))";
 const FOUR_PATHS: &str = "(e,(frame,{@id,@seq,stamp.@id,stamp.@seq}))";
-const ANY_PATHS: &str = "(_*.run._*.run._*.run._*.port,(_*.frame.port,{e}))";
+const ELEMENTS: [&str; 4] = ["run", "port", "frame", "stamp"];
 const BLOCKS: [usize; 2] = [0, 4];
 
-fn segment_profile() -> Vec<u8> {
-    let keys = segment_keys();
+/// A profile with as many keys as it may have.
+fn full_of(keys: Vec<String>) -> Vec<u8> {
     let words: Vec<&str> = keys.iter().map(String::as_str).collect();
     assert_eq!(words.len(), PROFILE_KEYS);
     bench_profile(&words)
+}
+
+fn segment_profile() -> Vec<u8> {
+    full_of(segment_keys())
 }
 
 fn profiles() -> Vec<Case> {
@@ -105,11 +109,18 @@ pub fn deep_cases() -> Vec<Case> {
     ]
 }
 
+/// 64 keys of any-paths, no two of them equal, under a context that a chain of runs never has: it ends in a port.
+fn any_path_keys() -> Vec<String> {
+    let words = || ELEMENTS.into_iter();
+    let targets = words().flat_map(|a| words().flat_map(move |b| words().map(move |c| format!("_*.{}.{}.{}", a, b, c))));
+    targets.map(|target| format!("(_*.run._*.run._*.run._*.port,({},{{e}}))", target)).collect()
+}
+
 /// There is no port, so the keys are kept; the ends of the forked chain are equal, and the root reaches both.
 fn any_paths_on_a_chain() -> Case {
     let tree = forked_chain(TREE_NODES);
     let input = format!("forked chain, 64 keys of any-paths, {} nodes", tree.nodes.len());
-    let inputs = [bench_profile(&[ANY_PATHS; PROFILE_KEYS]), question(EVERYWHERE), tree.bytes()];
+    let inputs = [full_of(any_path_keys()), question(EVERYWHERE), tree.bytes()];
     Case::new(Operation::CheckCounterexample, input, inputs, "accepted")
 }
 
