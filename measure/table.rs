@@ -18,13 +18,19 @@ const NO_TARGET: &str = "(_*,(_*.port,{e}))";
 const IN_A_PORT: &str = "(port,(frame,{@seq}))";
 const BELOW_A_RUN: &str = "(run.port,(frame,{@seq}))";
 const IN_THE_TREE: &str = "(e,(port.frame,{@seq}))";
+const FOUR_PATHS: &str = "(e,(frame,{@id,@seq,stamp.@id,stamp.@seq}))";
+const ELEMENTS: [&str; 4] = ["run", "port", "frame", "stamp"];
 const BLOCKS: [usize; 2] = [0, 4];
 
-fn segment_profile() -> Vec<u8> {
-    let keys = segment_keys();
+/// A profile with as many keys as it may have.
+fn full_of(keys: Vec<String>) -> Vec<u8> {
     let words: Vec<&str> = keys.iter().map(String::as_str).collect();
     assert_eq!(words.len(), PROFILE_KEYS);
     bench_profile(&words)
+}
+
+fn segment_profile() -> Vec<u8> {
+    full_of(segment_keys())
 }
 
 fn profiles() -> Vec<Case> {
@@ -47,7 +53,7 @@ fn inclusions() -> Vec<Case> {
 /// Name, question, tree and the verdict, which stands derived by hand beside it.
 type TreeCase = (&'static str, &'static str, fn(usize) -> Table, &'static str);
 
-const TREE_CASES: [TreeCase; 13] = [
+const TREE_CASES: [TreeCase; 16] = [
     // Frames of two ports agree, and no port reaches both; below one port @seq differs.
     ("segment, one key", IN_A_PORT, segment, "kept"),
     // No two elements of a chain have equally many nodes below them.
@@ -70,6 +76,12 @@ const TREE_CASES: [TreeCase; 13] = [
     ("broom, {e}", NO_TARGET, broom, "kept"),
     // No two @seq are equal.
     ("two fans, {@id,@seq}", EQUAL_AND_DIFFERENT, fans, "kept"),
+    // All frames agree, and each has a port of its own as its only context.
+    ("ports of one frame, {@seq}", IN_A_PORT, ports_of_one, "kept"),
+    // No two frames have the same four digits: there are fewer than 6 * 6 * 6 * 6.
+    ("grid, {@id,@seq,stamp.@id,stamp.@seq}", FOUR_PATHS, grid, "kept"),
+    // Two frames that share an @id share no @seq, and the other way round.
+    ("shared by half, {@id,@seq}", EQUAL_AND_DIFFERENT, shared_by_half, "kept"),
 ];
 
 fn keep((name, key, tree, wanted): TreeCase, nodes: usize) -> Case {
@@ -97,6 +109,21 @@ pub fn deep_cases() -> Vec<Case> {
     ]
 }
 
+/// 64 keys of any-paths, no two of them equal, under a context that a chain of runs never has: it ends in a port.
+fn any_path_keys() -> Vec<String> {
+    let words = || ELEMENTS.into_iter();
+    let targets = words().flat_map(|a| words().flat_map(move |b| words().map(move |c| format!("_*.{}.{}.{}", a, b, c))));
+    targets.map(|target| format!("(_*.run._*.run._*.run._*.port,({},{{e}}))", target)).collect()
+}
+
+/// There is no port, so the keys are kept; the ends of the forked chain are equal, and the root reaches both.
+fn any_paths_on_a_chain() -> Case {
+    let tree = forked_chain(TREE_NODES);
+    let input = format!("forked chain, 64 keys of any-paths, {} nodes", tree.nodes.len());
+    let inputs = [full_of(any_path_keys()), question(EVERYWHERE), tree.bytes()];
+    Case::new(Operation::CheckCounterexample, input, inputs, "accepted")
+}
+
 /// The segment keeps the keys, and breaks the question: @seq 0 stands in two ports.
 fn counterexamples() -> Vec<Case> {
     let tree = segment(TREE_NODES);
@@ -104,7 +131,7 @@ fn counterexamples() -> Vec<Case> {
         let input = format!("segment, {}, {} nodes", input, tree.nodes.len());
         Case::new(Operation::CheckCounterexample, input, [profile, question(IN_THE_TREE), tree.bytes()], "accepted")
     };
-    vec![check("one key", bench_profile(&[IN_A_PORT])), check("64 keys", segment_profile())]
+    vec![check("one key", bench_profile(&[IN_A_PORT])), check("64 keys", segment_profile()), any_paths_on_a_chain()]
 }
 
 /// The reference's own proof of a question with 8 steps.

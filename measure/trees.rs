@@ -179,6 +179,51 @@ pub fn dressed_star(nodes: usize) -> Table {
     table
 }
 
+/// Ports with one frame each, and all frames are equal: many pairs that agree, and no context that two of them share.
+pub fn ports_of_one(nodes: usize) -> Table {
+    let mut table = Table::new();
+    for _ in 0..(nodes - 1) / 3 {
+        let port = table.element(0, PORT);
+        let frame = table.element(port, FRAME);
+        table.add(frame, SEQ, 0);
+    }
+    table
+}
+
+/// A frame with two attributes, its stamp and the stamp's two.
+const GRID_NODES: usize = 6;
+const GRID_VALUES: usize = 6;
+
+/// Frames with four values out of six each, as the digits of their number: any three of them are shared by many, all four by none.
+pub fn grid(nodes: usize) -> Table {
+    let mut table = Table::new();
+    for number in 0..(nodes - 1) / GRID_NODES {
+        let digit = |place: u32| number / GRID_VALUES.pow(place) % GRID_VALUES;
+        let frame = table.element(0, FRAME);
+        table.add(frame, ID, digit(0));
+        table.add(frame, SEQ, digit(1));
+        let stamp = table.element(frame, STAMP);
+        table.add(stamp, ID, digit(2));
+        table.add(stamp, SEQ, digit(3));
+    }
+    table
+}
+
+/// Frames with two @id and two @seq. Every other frame has one @id that all of these have; the frames between have one @seq that all of those have.
+pub fn shared_by_half(nodes: usize) -> Table {
+    let mut table = Table::new();
+    for number in 0..(nodes - 1) / 5 {
+        let frame = table.element(0, FRAME);
+        let own = 4 * number + 1;
+        let (id, seq) = if number % 2 == 0 { (0, own + 3) } else { (own + 3, 0) };
+        table.add(frame, ID, id);
+        table.add(frame, ID, own);
+        table.add(frame, SEQ, own + 1);
+        table.add(frame, SEQ, seq);
+    }
+    table
+}
+
 pub const FRAMES: usize = 33;
 /// A port with its @id; its frames have two attributes, a stamp and the stamp's text.
 const PORT_NODES: usize = 2 + 5 * FRAMES;

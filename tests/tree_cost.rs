@@ -139,6 +139,51 @@ fn broom(nodes: usize) -> Table {
     table
 }
 
+/// Ports with one frame each, and all frames are equal: many pairs that agree, and no context that two of them share.
+fn ports_of_one(nodes: usize) -> Table {
+    let mut table = Table::new();
+    for _ in 0..(nodes - 1) / 3 {
+        let port = table.element(0, PORT);
+        let frame = table.element(port, FRAME);
+        table.add(frame, SEQ, 0);
+    }
+    table
+}
+
+/// A frame with two attributes, its stamp and the stamp's two.
+const GRID_NODES: usize = 6;
+const GRID_VALUES: usize = 6;
+
+/// Frames with four values out of six each, as the digits of their number: any three of them are shared by many, all four by none.
+fn grid(nodes: usize) -> Table {
+    let mut table = Table::new();
+    for number in 0..(nodes - 1) / GRID_NODES {
+        let digit = |place: u32| number / GRID_VALUES.pow(place) % GRID_VALUES;
+        let frame = table.element(0, FRAME);
+        table.add(frame, ID, digit(0));
+        table.add(frame, SEQ, digit(1));
+        let stamp = table.element(frame, STAMP);
+        table.add(stamp, ID, digit(2));
+        table.add(stamp, SEQ, digit(3));
+    }
+    table
+}
+
+/// Frames with two @id and two @seq. Every other frame has one @id that all of these have; the frames between have one @seq that all of those have.
+fn shared_by_half(nodes: usize) -> Table {
+    let mut table = Table::new();
+    for number in 0..(nodes - 1) / 5 {
+        let frame = table.element(0, FRAME);
+        let own = 4 * number + 1;
+        let (id, seq) = if number % 2 == 0 { (0, own + 3) } else { (own + 3, 0) };
+        table.add(frame, ID, id);
+        table.add(frame, ID, own);
+        table.add(frame, SEQ, own + 1);
+        table.add(frame, SEQ, seq);
+    }
+    table
+}
+
 /// So many attributes, no two of them equal, from the first or from the last.
 fn add_attributes(table: &mut Table, parent: usize, count: usize, reversed: bool) {
     for i in 0..count {
@@ -290,6 +335,12 @@ fn cases() -> Vec<Case> {
         keep("broom, contexts apart", "(_*.run.frame,(_*.port,{e}))", broom, "kept"),
         // No port is reached: no run of a target stands below a stamp.
         keep("broom, no target", "(_*,(_*.stamp._*.port,{e}))", broom, "kept"),
+        // All frames agree, and each has a port of its own as its only context.
+        keep("ports of one frame, contexts apart", "(port,(frame,{@seq}))", ports_of_one, "kept"),
+        // No two frames have the same four digits: there are fewer than 6 * 6 * 6 * 6.
+        keep("grid, four key paths", "(e,(frame,{@id,@seq,stamp.@id,stamp.@seq}))", grid, "kept"),
+        // Two frames that share an @id share no @seq, and the other way round.
+        keep("halves, equal and different", EQUAL_AND_DIFFERENT, shared_by_half, "kept"),
         // "Elements and text keep their order": no two chains have their texts in one order, and no two elements of a chain have equally
         // many nodes below them.
         keep("chains of other orders, {e}", "(_*,(_*.run,{e}))", orders, "kept"),

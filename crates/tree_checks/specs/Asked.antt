@@ -7,8 +7,8 @@ use mathlib.Core.List.{List, [], _∷_}
 use mathlib.Core.Option.{some, Option·some-injective}
 use native.Mathlib.Omega.{arith}
 use lib.Seq.{take-length}
-use lib.ListN.{length, take, getElem?}
-use Rattle.meaning.specs.Limits.{KeyLimits, inProfile}
+use lib.ListN.{length, take, getElem?, getD}
+use Rattle.meaning.specs.Limits.{inProfile}
 use Rattle.meaning.specs.Lists.{Each}
 use Rattle.meaning.specs.Lists.Each.{end, also}
 use Rattle.meaning.specs.Paths.{Label, Class, classOf, simple}
@@ -21,6 +21,7 @@ use Rattle.meaning.specs.Operations.CounterexampleJudged.{breaksKey, keepsQuest
 use Rattle.shapes.specs.Classes.{Tabled, classBy}
 use Rattle.theory_paths.specs.Bools.{each-every}
 use Rattle.theory_paths.specs.Good
+use Rattle.theory_derive.specs.Logic.{getD-mem}
 use Rattle.theory_operations.specs.Refusing.{unless-sound, sound-number}
 use Rattle.theory_records.specs.Heads.{Whole}
 use Rattle.theory_records.specs.Encodings.{ends-key}
@@ -37,7 +38,7 @@ use Rattle.answers.specs.Cases.{outcomeOf, meant}
 use Rattle.records.specs.ProfileWalks.{ProfileSays}
 use Rattle.tree_nodes.specs.FileTable.{fileTable, TreeBytes}
 use Rattle.tree_nodes.specs.Decides.{Decides}
-use Rattle.tree_search.specs.Search.{GoodKey}
+use Rattle.key_groups.specs.GoodKey.{GoodKey}
 use Rattle.checks.specs.Found.{ReadyIn, Tables, ready-in, fine-is}
 use Rattle.tree_checks.specs.Inputs.{Passes, BothSay, none-refuses, profile-refuses, both-refuse}
 use Rattle.tree_checks.specs.ProfileKeys.{keyBodyAt, KeyBodies, KeptBelow, LowestBroken}
@@ -66,14 +67,18 @@ counted-of says e k =
     record { ready = ready-in says e k; beforeKeys = says .beforeKeys z; keyCount = says .keyCount z }
 
 -- a key record that was accepted has the body of a key
-key-body : (labels : List Label) (limits : KeyLimits) (l : List ℕ) → Whole l → recordKind l ≡ 2
-    → Good.GoodKey labels limits (keyIn (recordBody l)) → GoodKey (recordBody l)
-key-body labels limits l w k g =
-    let s = Good.paths-some labels limits (keyIn (recordBody l)) g in
+key-body : (labels : List Label) (l : List ℕ) → Whole l → recordKind l ≡ 2 → Good.GoodKey labels inProfile (keyIn (recordBody l))
+    → GoodKey (recordBody l)
+key-body labels l w k g =
+    let s = Good.paths-some labels inProfile (keyIn (recordBody l)) g in
     record {
       reads = ends-key l w k;
       some = omega arith;
-      simples = each-every simple (keyIn (recordBody l) .paths) (Good.key-path-simple labels limits (keyIn (recordBody l)) g);
+      few = Good.paths-within labels inProfile (keyIn (recordBody l)) g;
+      simples = each-every simple (keyIn (recordBody l) .paths) (Good.key-path-simple labels inProfile (keyIn (recordBody l)) g);
+      short = λ i h.
+          Good.key-path-length labels inProfile (keyIn (recordBody l)) g (getD (keyIn (recordBody l) .paths) i [])
+          (getD-mem (keyIn (recordBody l) .paths) i [] h);
     }
 
 module _ {second : Bool} {question tree classes : List ℕ} (asked : Asked second question tree classes) where
@@ -87,7 +92,7 @@ module _ {second : Bool} {question tree classes : List ℕ} (asked : Asked secon
   unfolding questionIn
   asked-key e =
       let a = question-accepts (asked .tables .labels) question (own .asked) in
-      subst GoodKey (sym e) (key-body (asked .tables .labels) inProfile question (a .isWhole) (a .kind) (a .good))
+      subst GoodKey (sym e) (key-body (asked .tables .labels) question (a .isWhole) (a .kind) (a .good))
 
   module _ {profile : List ℕ} (ready : ReadyIn profile classes second) where
     here : Passes (secondIn profile) (labelsIn profile) question tree
@@ -143,35 +148,36 @@ each-front zero xs h = end
 each-front (suc n) [] h = end
 each-front (suc n) (x ∷ xs) h = also (h zero x (omega arith) refl) (each-front n xs (λ i y l e. h (suc i) y (omega arith) e))
 
-module _ {profile classes : List ℕ} {second : Bool} {labels keys : ℕ} (counted : Counted profile classes second labels keys) where
-  body-place : (n : ℕ) → keyBodyAt profile labels n ≡ recordBody (recordsFrom (firstEntry profile + length (labelsIn profile) + n) profile)
+module _ {profile classes : List ℕ} {second : Bool} {labels keys : ℕ} (counted : Counted profile classes second labels keys) {part : List ℕ}
+    (isPart : part ≡ recordsFrom labels profile) where
+  body-place : (n : ℕ) → keyBodyAt part n ≡ recordBody (recordsFrom (firstEntry profile + length (labelsIn profile) + n) profile)
   unfolding keyBodyAt
   body-place n =
-      ap recordBody (sym (records-add labels n profile) ∙ ap (λ (l : ℕ). recordsFrom (l + n) profile) (counted .beforeKeys))
+      ap recordBody (ap (recordsFrom n) isPart ∙ sym (records-add labels n profile) ∙ ap (λ (l : ℕ). recordsFrom (l + n) profile) (counted .beforeKeys))
 
   place : (n : ℕ) → n < keys → KeyPlace (labelsIn profile) profile (keysIn profile) n
   place n h = key-place profile n (let e = counted .keyCount in omega arith)
 
-  pub counted-bodies : KeyBodies profile labels keys
+  pub counted-bodies : KeyBodies part keys
   counted-bodies =
       record {
         each = λ n h.
             let p = place n h in
-            subst GoodKey (sym (body-place n)) (key-body (labelsIn profile) inProfile _ (p .isWhole) (p .kind) (p .good));
+            subst GoodKey (sym (body-place n)) (key-body (labelsIn profile) _ (p .isWhole) (p .kind) (p .good));
       }
 
-  key-at : (n : ℕ) → n < keys → getElem? (keysIn profile) n ≡ some (keyIn (keyBodyAt profile labels n))
+  key-at : (n : ℕ) → n < keys → getElem? (keysIn profile) n ≡ some (keyIn (keyBodyAt part n))
   key-at n h = place n h .is ∙ ap (λ (b : List ℕ). some (keyIn b)) (sym (body-place n))
 
   module _ {question tree : List ℕ} (asked : Asked second question tree classes) {r : ℕ}
-      (lowest : LowestBroken (classBy classes) (fileTable tree) profile labels keys r) where
+      (lowest : LowestBroken (classBy classes) (fileTable tree) part keys r) where
     front-kept : Each (KeepsIn profile tree) (take r (keysIn profile))
     front-kept =
         each-front r (keysIn profile)
         (λ i key l e.
         subst (KeepsIn profile tree)
-        (Option·some-injective (keyIn (keyBodyAt profile labels i)) key (sym (key-at i (let w = lowest .within in omega arith)) ∙ e))
-        (keeps-in asked (counted .ready) (keyIn (keyBodyAt profile labels i)) (lowest .below .each i l)))
+        (Option·some-injective (keyIn (keyBodyAt part i)) key (sym (key-at i (let w = lowest .within in omega arith)) ∙ e))
+        (keeps-in asked (counted .ready) (keyIn (keyBodyAt part i)) (lowest .below .each i l)))
 
     all-kept : keys ≤ r → Each (KeepsIn profile tree) (keysIn profile)
     all-kept h =
@@ -184,7 +190,7 @@ module _ {profile classes : List ℕ} {second : Bool} {labels keys : ℕ} (count
     unfolding ChecksCounterexample
     breaks-key h =
         unless-sound _ [] _ _ (none-refuses _ _ (counted .ready) (here asked (counted .ready)))
-        (breaksKey r (keyIn (keyBodyAt profile labels r)) (key-at r h) front-kept (breaks-in asked (counted .ready) _ (lowest .here h)) refl)
+        (breaksKey r (keyIn (keyBodyAt part r)) (key-at r h) front-kept (breaks-in asked (counted .ready) _ (lowest .here h)) refl)
 
     module _ (all : keys ≤ r) {body : List ℕ} (isBody : body ≡ recordBody question) {found : Bool}
         (decided : Decides (Breaks (classBy classes) (fileTable tree) (keyIn body)) found) where

@@ -13,8 +13,14 @@ use answers::Refusal;
 use answers::TREE_OR_PROOF;
 use answers::of_input;
 use checks::profiles::body_at_front;
+use key_groups::sorted::SORTED;
+use key_pairs::memo::MEMO;
+use places::record_at;
 use records::profile::read_profile;
-use tree_tables::prepare;
+use row_classes::prepare;
+use tree_nodes::fields::NODES;
+use tree_rows::hung::HUNG;
+use tree_rows::rows::ROWS;
 ghost use Prim.Native.Nat.{ℕ};
 ghost use mathlib.Core.List.{List};
 ghost use Rattle.meaning.specs.Operations.{TestsTree, ChecksCounterexample};
@@ -27,18 +33,28 @@ const BREAKS_A_KEY: usize = 12;
 
 const KEEPS_THE_QUESTION: usize = 13;
 
-// The answer for an accepted question and an accepted tree.
+// The answer for an accepted question and an accepted tree. All tables are made once, here.
 fn keep_accepted(question: &[u8], tree: &[u8], classes: &[u8; 256], second: bool) -> Keeping
     requires { ⌜ Asked second (now question) (now tree) (now classes) ⌝ }
     ensures { λ r. ⌜ ((profile : List ℕ) → ReadyIn profile (now (classes .entry)) second → TestsTree profile (now (question .entry)) (now (tree .entry)) (keepingAnswer r)) ⌝ }
 {
-    let tables = prepare(tree, classes);
-    let first = tables.first;
-    let next = tables.next;
-    let class = tables.class;
-    let same = tables.same;
+    let mut rows = [0u16; ROWS];
+    let mut top = [0u16; NODES];
+    let mut hung = [0u16; HUNG];
+    let mut sorted = [0u16; SORTED];
+    let mut memo = [0u16; MEMO];
+    prepare(tree, classes, &mut rows);
     let body = body_at_front(question);
-    if breaks(tree, classes, &first, &next, &class, &same, body) {
+    if breaks(
+        tree,
+        classes,
+        &rows,
+        body,
+        &mut top,
+        &mut hung,
+        &mut sorted,
+        &mut memo,
+    ) {
         return Keeping::Broken;
     }
     Keeping::Kept
@@ -71,7 +87,8 @@ pub fn keep(profile: &[u8], question: &[u8], tree: &[u8]) -> Keeping
     }
 }
 
-// The answer for an accepted question and an accepted tree: 12 with the lowest key number, then 13.
+// The answer for an accepted question and an accepted tree: 12 with the lowest key number, then 13. All tables are made once, here, and lent to every
+// key in turn.
 fn check_accepted(
     profile: &[u8],
     before: usize,
@@ -84,21 +101,23 @@ fn check_accepted(
     requires { ⌜ Asked second (now question) (now tree) (now classes) × Counted (now profile) (now classes) second before keys ⌝ }
     ensures { λ r. ⌜ ChecksCounterexample (now (profile .entry)) (now (question .entry)) (now (tree .entry)) (checkingAnswer r) ⌝ }
 {
-    let tables = prepare(tree, classes);
-    let first = tables.first;
-    let next = tables.next;
-    let class = tables.class;
-    let same = tables.same;
+    let mut rows = [0u16; ROWS];
+    let mut top = [0u16; NODES];
+    let mut hung = [0u16; HUNG];
+    let mut sorted = [0u16; SORTED];
+    let mut memo = [0u16; MEMO];
+    prepare(tree, classes, &mut rows);
+    let part = record_at(profile, before);
     let broken = first_broken(
-        profile,
-        before,
+        part,
         keys,
         tree,
         classes,
-        &first,
-        &next,
-        &class,
-        &same,
+        &rows,
+        &mut top,
+        &mut hung,
+        &mut sorted,
+        &mut memo,
     );
     if broken < keys {
         return Checking::Refused(Refusal {
@@ -108,7 +127,16 @@ fn check_accepted(
         });
     }
     let body = body_at_front(question);
-    if breaks(tree, classes, &first, &next, &class, &same, body) {
+    if breaks(
+        tree,
+        classes,
+        &rows,
+        body,
+        &mut top,
+        &mut hung,
+        &mut sorted,
+        &mut memo,
+    ) {
         return Checking::Accepted;
     }
     Checking::Refused(Refusal {

@@ -1,21 +1,40 @@
--- Weights: label, value and the sum of the children's weights, mixed into 32 bits. One law for each way of the code.
-use Prim.Native.Nat.{ℕ, zero, suc, _+_, _-_, _*_, _/_, _%_, _<_, _≤_}
+-- Weights: label, value, the sum of the children's weights and the order of those that are no attributes, mixed into 32 bits. One law for each way of
+-- the code.
+use Prim.Native.Nat.{ℕ, _+_, _-_, _*_, _/_, _%_, _<_, _≤_}
 use mathlib.Core.Path.{_≡_, refl, sym, _∙_, ap, ap₂, subst}
 use mathlib.Core.Bool.{Bool, true, false, cond, not}
-use mathlib.Core.List.{List, [], _∷_, List·Memᴰ, List·Memᴰ·head, List·Memᴰ·tail, Permᴰ·symm}
+use mathlib.Core.List.{List, List·Memᴰ, List·Memᴰ·head, List·Memᴰ·tail, Permᴰ·symm}
 use native.Mathlib.Omega.{arith}
 use native.Mathlib.Nat.{mul-le-mul-left, le-of-lt}
 use native.Mathlib.Decide.{ℕ-discrete}
 use lib.Dec.{T}
-use lib.ListN.{length, getD, set, length-set}
+use lib.ListN.{length, getD, set}
 use lib.Seq.{getD-set-same, getD-set-other}
 use Rattle.meaning.specs.Paths.{Class, isElement}
-use Rattle.meaning.specs.Trees.{Table, IsTree, Child, attributes, others, Equal, leaves, elements, EqualSets, matched, EqualLists, ended, paired}
+use Rattle.meaning.specs.Trees.{Table, IsTree, attributes, others, Equal, leaves, elements, EqualSets, matched, EqualLists, ended, paired}
 use Rattle.theory_trees.specs.Children.{attribute-child, other-child}
 use Rattle.theory_trees.specs.Laws.{equal-label}
 use Rattle.theory_trees.specs.Matching.{perm-mem}
-use Rattle.tree_classes.specs.Leaders.{Weighed}
-use Rattle.tree_weights.specs.Sums.{total, total-set, total-more, total-other, sumOf, sum-order, childOf, children-split}
+use Rattle.tree_weights.specs.Sums.{
+  folded,
+  foldOf,
+  plus,
+  ordered,
+  sum-order,
+  childOf,
+  otherOf,
+  unlessAttribute,
+  children-split,
+  others-ordered,
+  sum-more,
+  sum-other,
+  order-more,
+  order-other,
+}
+
+-- Value-equal nodes have equal weights
+pub record Weighed (κ : ℕ → Class) (t : Table) (weight : List ℕ) : Type 0 where
+  pub equal : (x y : ℕ) → x < t .size → y < t .size → Equal κ t x y → getD weight x 0 ≡ getD weight y 0
 
 abbrev pub range : ℕ
 range = 4294967296
@@ -29,81 +48,104 @@ unfoldable pub mix : ℕ → ℕ → ℕ → ℕ
 mix label value sum = spread label value sum / 4096 * 4096 + (sum + 1) % 4096
 
 -- an element weighs by its children, attribute and text by the value
-unfoldable pub weightOf : (ℕ → Class) → Table → ℕ → ℕ → ℕ
-weightOf κ t sum x = cond (isElement (κ (t .label x))) (mix (t .label x) 0 sum) (mix (t .label x) (t .value x) 0)
+unfoldable pub weightOf : (ℕ → Class) → Table → ℕ → ℕ → ℕ → ℕ
+weightOf κ t sum order x = cond (isElement (κ (t .label x))) (mix (t .label x) order sum) (mix (t .label x) (t .value x) 0)
 
-pub record WeighedFrom (κ : ℕ → Class) (t : Table) (i : ℕ) (weight sums : List ℕ) : Type 0 where
-  pub summed : (v : ℕ) → v < t .size → getD sums v 0 ≡ total (childOf t v) weight (t .size - i) i % range
-  pub each : (x : ℕ) → i ≤ x → x < t .size → getD weight x 0 ≡ weightOf κ t (getD sums x 0) x
+pub record WeighedFrom (κ : ℕ → Class) (t : Table) (i : ℕ) (weight sums orders : List ℕ) : Type 0 where
+  pub summed : (v : ℕ) → v < t .size → getD sums v 0 ≡ folded plus (childOf t v) weight (t .size - i) i % range
+  pub placed : (v : ℕ) → v < t .size → getD orders v 0 ≡ folded ordered (otherOf κ t v) weight (t .size - i) i
+  pub each : (x : ℕ) → i ≤ x → x < t .size → getD weight x 0 ≡ weightOf κ t (getD sums x 0) (getD orders x 0) x
 
 module _ (κ : ℕ → Class) (t : Table) where
-  pub weighed-none : (n : ℕ) (weight sums : List ℕ) → n ≡ t .size → ((v : ℕ) → getD sums v 0 ≡ 0) → WeighedFrom κ t n weight sums
-  unfolding total
-  weighed-none n weight sums e zeros =
+  pub weighed-none : (n : ℕ) (weight sums orders : List ℕ) → n ≡ t .size → ((v : ℕ) → getD sums v 0 ≡ 0) → ((v : ℕ) → getD orders v 0 ≡ 0)
+      → WeighedFrom κ t n weight sums orders
+  unfolding folded
+  weighed-none n weight sums orders e zeros none =
       let z : t .size - n ≡ 0 = omega arith in
       record {
-        summed = λ v h. zeros v ∙ sym (ap (λ (k : ℕ). total (childOf t v) weight k n % range) z);
+        summed = λ v h. zeros v ∙ sym (ap (λ (k : ℕ). folded plus (childOf t v) weight k n % range) z);
+        placed = λ v h. none v ∙ sym (ap (λ (k : ℕ). folded ordered (otherOf κ t v) weight k n) z);
         each = λ x h g. absurd (omega arith);
       }
 
-  module _ (weight sums : List ℕ) (j p w s : ℕ) (low : 1 < j) (high : j ≤ t .size) (fits : t .size ≤ length weight) (fits′ : t .size ≤ length sums)
-      (above : t .parent (j - 1) < j - 1) (e : p ≡ t .parent (j - 1)) (is : w ≡ weightOf κ t (getD sums (j - 1) 0) (j - 1))
-      (added : s ≡ (getD sums p 0 + w) % range) (l : WeighedFrom κ t j weight sums) where
-    pub weighed-step : WeighedFrom κ t (j - 1) (set weight (j - 1) w) (set sums p s)
-    weighed-step = record { summed = λ v h. sum v h (ℕ-discrete v p); each = λ x h g. one x h g (ℕ-discrete x (j - 1)) }
+  module _ (weight sums orders : List ℕ) (j p w s o : ℕ) (low : 1 < j) (high : j ≤ t .size) (fits : t .size ≤ length weight)
+      (fits′ : t .size ≤ length sums) (fits″ : t .size ≤ length orders) (above : t .parent (j - 1) < j - 1) (e : p ≡ t .parent (j - 1))
+      (is : w ≡ weightOf κ t (getD sums (j - 1) 0) (getD orders (j - 1) 0) (j - 1)) (added : s ≡ (getD sums p 0 + w) % range)
+      (next : o ≡ unlessAttribute κ t (j - 1) w (getD orders p 0)) (l : WeighedFrom κ t j weight sums orders) where
+    pub weighed-step : WeighedFrom κ t (j - 1) (set weight (j - 1) w) (set sums p s) (set orders p o)
+    weighed-step =
+        record {
+          summed = λ v h. sum v h (ℕ-discrete v p);
+          placed = λ v h. order v h (ℕ-discrete v p);
+          each = λ x h g. one x h g (ℕ-discrete x (j - 1));
+        }
       where
         sum : (v : ℕ) → v < t .size → Dec (v ≡ p)
-            → getD (set sums p s) v 0 ≡ total (childOf t v) (set weight (j - 1) w) (t .size - (j - 1)) (j - 1) % range
+            → getD (set sums p s) v 0 ≡ folded plus (childOf t v) (set weight (j - 1) w) (t .size - (j - 1)) (j - 1) % range
         sum v h (yes z) =
             let b = l .summed v h in
-            let m = total-more t weight j w v low high fits (sym e ∙ sym z) in
+            let m = sum-more κ t weight j w v low high fits (sym e ∙ sym z) in
             let g = getD-set-same sums p s 0 (omega arith) in
             let k = ap (λ (n : ℕ). getD (set sums p s) n 0) z in
             let c = ap (λ (n : ℕ). getD sums n 0) z in
             omega arith
         sum v h (no n) =
             getD-set-other sums p v s 0 n ∙ l .summed v h
-            ∙ sym (ap (λ (k : ℕ). k % range) (total-other t weight j w v low high fits (λ z. n (sym z ∙ sym e))))
+            ∙ sym (ap (λ (k : ℕ). k % range) (sum-other κ t weight j w v low high fits (λ z. n (sym z ∙ sym e))))
+
+        order : (v : ℕ) → v < t .size → Dec (v ≡ p)
+            → getD (set orders p o) v 0 ≡ folded ordered (otherOf κ t v) (set weight (j - 1) w) (t .size - (j - 1)) (j - 1)
+        order v h (yes z) =
+            ap (λ (n : ℕ). getD (set orders p o) n 0) z ∙ getD-set-same orders p o 0 (omega arith) ∙ next
+            ∙ ap (unlessAttribute κ t (j - 1) w) (sym (ap (λ (n : ℕ). getD orders n 0) z) ∙ l .placed v h)
+            ∙ sym (order-more κ t weight j w v low high fits (sym e ∙ sym z))
+        order v h (no n) =
+            getD-set-other orders p v o 0 n ∙ l .placed v h ∙ sym (order-other κ t weight j w v low high fits (λ z. n (sym z ∙ sym e)))
 
         one : (x : ℕ) → j - 1 ≤ x → x < t .size → Dec (x ≡ j - 1)
-            → getD (set weight (j - 1) w) x 0 ≡ weightOf κ t (getD (set sums p s) x 0) x
+            → getD (set weight (j - 1) w) x 0 ≡ weightOf κ t (getD (set sums p s) x 0) (getD (set orders p o) x 0) x
         one x h g (yes z) =
-            subst (λ (n : ℕ). getD (set weight (j - 1) w) n 0 ≡ weightOf κ t (getD (set sums p s) n 0) n) (sym z)
+            subst (λ (n : ℕ). getD (set weight (j - 1) w) n 0 ≡ weightOf κ t (getD (set sums p s) n 0) (getD (set orders p o) n 0) n) (sym z)
             (getD-set-same weight (j - 1) w 0 (omega arith) ∙ is
-            ∙ sym (ap (λ (k : ℕ). weightOf κ t k (j - 1)) (getD-set-other sums p (j - 1) s 0 (λ c. omega arith))))
+            ∙ sym (ap₂ (λ (a b : ℕ). weightOf κ t a b (j - 1)) (getD-set-other sums p (j - 1) s 0 (λ c. omega arith))
+            (getD-set-other orders p (j - 1) o 0 (λ c. omega arith))))
         one x h g (no n) =
             getD-set-other weight (j - 1) x w 0 n ∙ l .each x (omega arith) g
-            ∙ sym (ap (λ (k : ℕ). weightOf κ t k x) (getD-set-other sums p x s 0 (λ c. omega arith)))
+            ∙ sym (ap₂ (λ (a b : ℕ). weightOf κ t a b x) (getD-set-other sums p x s 0 (λ c. omega arith)) (getD-set-other orders p x o 0 (λ c. omega arith)))
 
   -- the code's two ways to weigh
-  pub weigh-element : (x k sum w : ℕ) (b : Bool) → k ≡ t .label x → b ≡ isElement (κ k) → b ≡ true → w ≡ mix k 0 sum → w ≡ weightOf κ t sum x
+  pub weigh-element : (x k sum order w : ℕ) (b : Bool) → k ≡ t .label x → b ≡ isElement (κ k) → b ≡ true → w ≡ mix k order sum
+      → w ≡ weightOf κ t sum order x
   unfolding weightOf
-  weigh-element x k sum w b e f g h =
-      h ∙ ap (λ (n : ℕ). mix n 0 sum) e
-      ∙ sym (ap (λ (c : Bool). cond c (mix (t .label x) 0 sum) (mix (t .label x) (t .value x) 0))
+  weigh-element x k sum order w b e f g h =
+      h ∙ ap (λ (n : ℕ). mix n order sum) e
+      ∙ sym (ap (λ (c : Bool). cond c (mix (t .label x) order sum) (mix (t .label x) (t .value x) 0))
       (sym (ap (λ (n : ℕ). isElement (κ n)) e) ∙ sym f ∙ g))
 
-  pub weigh-leaf : (x k v sum w : ℕ) (b : Bool) → k ≡ t .label x → v ≡ t .value x → b ≡ isElement (κ k) → b ≡ false → w ≡ mix k v 0
-      → w ≡ weightOf κ t sum x
+  pub weigh-leaf : (x k v sum order w : ℕ) (b : Bool) → k ≡ t .label x → v ≡ t .value x → b ≡ isElement (κ k) → b ≡ false → w ≡ mix k v 0
+      → w ≡ weightOf κ t sum order x
   unfolding weightOf
-  weigh-leaf x k v sum w b e i f g h =
+  weigh-leaf x k v sum order w b e i f g h =
       h ∙ ap₂ (λ (n m : ℕ). mix n m 0) e i
-      ∙ sym (ap (λ (c : Bool). cond c (mix (t .label x) 0 sum) (mix (t .label x) (t .value x) 0))
+      ∙ sym (ap (λ (c : Bool). cond c (mix (t .label x) order sum) (mix (t .label x) (t .value x) 0))
       (sym (ap (λ (n : ℕ). isElement (κ n)) e) ∙ sym f ∙ g))
 
 -- value-equal nodes have equal weights
-module _ (κ : ℕ → Class) (t : Table) (weight sums : List ℕ) (l : WeighedFrom κ t 1 weight sums) where
+module _ (κ : ℕ → Class) (t : Table) (weight sums orders : List ℕ) (l : WeighedFrom κ t 1 weight sums orders) where
   Inside : List ℕ → Type 0
   Inside xs = (x : ℕ) → List·Memᴰ x xs → (0 < x) × (x < t .size)
 
   element-weight : (x : ℕ) → 0 < x → x < t .size → T (isElement (κ (t .label x)))
-      → getD weight x 0 ≡ mix (t .label x) 0 ((sumOf weight (attributes κ t x) + sumOf weight (others κ t x)) % range)
+      → getD weight x 0
+      ≡ mix (t .label x) (foldOf ordered weight (others κ t x)) ((foldOf plus weight (attributes κ t x) + foldOf plus weight (others κ t x)) % range)
   unfolding weightOf
   element-weight x p h e =
       l .each x p h ∙ go (isElement (κ (t .label x))) e
-      ∙ ap (mix (t .label x) 0) (l .summed x h ∙ ap (λ (k : ℕ). k % range) (children-split κ t weight x))
+      ∙ ap₂ (mix (t .label x)) (l .placed x h ∙ others-ordered κ t weight x)
+      (l .summed x h ∙ ap (λ (k : ℕ). k % range) (children-split κ t weight x))
     where
-      go : (b : Bool) → T b → cond b (mix (t .label x) 0 (getD sums x 0)) (mix (t .label x) (t .value x) 0) ≡ mix (t .label x) 0 (getD sums x 0)
+      go : (b : Bool) → T b
+          → cond b (mix (t .label x) (getD orders x 0) (getD sums x 0)) (mix (t .label x) (t .value x) 0) ≡ mix (t .label x) (getD orders x 0) (getD sums x 0)
       go true e = refl
       go false e = absurd e
 
@@ -111,7 +153,7 @@ module _ (κ : ℕ → Class) (t : Table) (weight sums : List ℕ) (l : WeighedF
   unfolding weightOf
   leaf-weight x p h e = l .each x p h ∙ go (isElement (κ (t .label x))) e
     where
-      go : (b : Bool) → T (not b) → cond b (mix (t .label x) 0 (getD sums x 0)) (mix (t .label x) (t .value x) 0) ≡ mix (t .label x) (t .value x) 0
+      go : (b : Bool) → T (not b) → cond b (mix (t .label x) (getD orders x 0) (getD sums x 0)) (mix (t .label x) (t .value x) 0) ≡ mix (t .label x) (t .value x) 0
       go true e = absurd e
       go false e = refl
 
@@ -124,7 +166,7 @@ module _ (κ : ℕ → Class) (t : Table) (weight sums : List ℕ) (l : WeighedF
   others-inside v x m = let c = other-child κ t m .0 in (c .notRoot, c .inside)
 
   mutual
-    unfolding Inside sumOf
+    unfolding Inside foldOf
 
     equal-weight : {x y : ℕ} → Equal κ t x y → 0 < x → x < t .size → 0 < y → y < t .size → getD weight x 0 ≡ getD weight y 0
     equal-weight {x} {y} (leaves e n v) p h q g =
@@ -132,20 +174,22 @@ module _ (κ : ℕ → Class) (t : Table) (weight sums : List ℕ) (l : WeighedF
         ∙ sym (leaf-weight y q g (subst (λ (k : ℕ). T (not (isElement (κ k)))) e n))
     equal-weight {x} {y} (elements e n a o) p h q g =
         element-weight x p h n
-        ∙ ap₂ (λ (k s : ℕ). mix k 0 (s % range)) e
-        (ap₂ (λ (c d : ℕ). c + d) (sets-weight a (attributes-inside x) (attributes-inside y)) (lists-weight o (others-inside x) (others-inside y)))
+        ∙ ap₂ (λ (k d : ℕ). mix k d ((foldOf plus weight (attributes κ t x) + foldOf plus weight (others κ t x)) % range)) e
+        (lists-weight o ordered (others-inside x) (others-inside y))
+        ∙ ap₂ (λ (c d : ℕ). mix (t .label y) (foldOf ordered weight (others κ t y)) ((c + d) % range))
+        (sets-weight a (attributes-inside x) (attributes-inside y)) (lists-weight o plus (others-inside x) (others-inside y))
         ∙ sym (element-weight y q g (subst (λ (k : ℕ). T (isElement (κ k))) e n))
 
-    sets-weight : {xs ys : List ℕ} → EqualSets κ t xs ys → Inside xs → Inside ys → sumOf weight xs ≡ sumOf weight ys
-    sets-weight (matched p e) h g = lists-weight e h (λ z m. g z (perm-mem (Permᴰ·symm p) m)) ∙ sym (sum-order weight p)
+    sets-weight : {xs ys : List ℕ} → EqualSets κ t xs ys → Inside xs → Inside ys → foldOf plus weight xs ≡ foldOf plus weight ys
+    sets-weight (matched p e) h g = lists-weight e plus h (λ z m. g z (perm-mem (Permᴰ·symm p) m)) ∙ sym (sum-order weight p)
 
-    lists-weight : {xs ys : List ℕ} → EqualLists κ t xs ys → Inside xs → Inside ys → sumOf weight xs ≡ sumOf weight ys
-    lists-weight ended h g = refl
-    lists-weight (paired {x} {y} e r) h g =
+    lists-weight : {xs ys : List ℕ} → EqualLists κ t xs ys → (step : ℕ → ℕ → ℕ) → Inside xs → Inside ys → foldOf step weight xs ≡ foldOf step weight ys
+    lists-weight ended step h g = refl
+    lists-weight (paired {x} {y} e r) step h g =
         let i = h x (List·Memᴰ·head refl) in
         let j = g y (List·Memᴰ·head refl) in
-        ap₂ (λ (a b : ℕ). a + b) (equal-weight e (i .0) (i .1) (j .0) (j .1))
-        (lists-weight r (λ z m. h z (List·Memᴰ·tail m)) (λ z m. g z (List·Memᴰ·tail m)))
+        ap₂ step (equal-weight e (i .0) (i .1) (j .0) (j .1))
+        (lists-weight r step (λ z m. h z (List·Memᴰ·tail m)) (λ z m. g z (List·Memᴰ·tail m)))
 
   pub weighed-all : IsTree κ t → Weighed κ t weight
   weighed-all tree = record { equal = λ x y h g e. go x y h g e (ℕ-discrete x 0) (ℕ-discrete y 0) }
@@ -163,7 +207,7 @@ pub product-fits : (a b : ℕ) → a < range → b < 131072 → a * b < 18446744
 product-fits a b h g = let m = mul-le-mul-left a (le-of-lt g) in omega arith
 
 -- the last step of the loop
-pub weighed-end : (κ : ℕ → Class) (t : Table) (i : ℕ) (weight sums : List ℕ) → i ≤ 1 → 0 < i → IsTree κ t → WeighedFrom κ t i weight sums
+pub weighed-end : (κ : ℕ → Class) (t : Table) (i : ℕ) (weight sums orders : List ℕ) → i ≤ 1 → 0 < i → IsTree κ t → WeighedFrom κ t i weight sums orders
     → Weighed κ t weight
-weighed-end κ t i weight sums h p tree l =
-    let e : i ≡ 1 = omega arith in weighed-all κ t weight sums (subst (λ (k : ℕ). WeighedFrom κ t k weight sums) e l) tree
+weighed-end κ t i weight sums orders h p tree l =
+    let e : i ≡ 1 = omega arith in weighed-all κ t weight sums orders (subst (λ (k : ℕ). WeighedFrom κ t k weight sums orders) e l) tree

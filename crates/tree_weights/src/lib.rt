@@ -1,19 +1,22 @@
-// A weight for each node, once per tree and backwards (children stand after their parents): label, value and the sum of the children's weights
-// mixed into 32 bits, such that value-equal nodes have equal weights. A sum, so that the order of children does not matter.
+// A weight for each node, once per tree and backwards (children stand after their parents): label, value, the sum of the children's weights and the
+// order of those that are no attributes, mixed into 32 bits, such that value-equal nodes have equal weights: attributes count in whatever order.
 // The low part of a weight counts the nodes from there down, exactly, since a sum keeps it and no node but the root has 4,096. So nodes of one
 // weight never lie below each other, and all calls of `node_eq` on them together visit at most the square of the nodes, whatever else collides.
+use shapes::classes::is_attribute;
 use shapes::classes::is_element;
 use tree_nodes::fields::NODES;
 use tree_nodes::fields::label;
 use tree_nodes::fields::parent;
 use tree_nodes::fields::size;
 use tree_nodes::fields::value;
+use tree_nodes::tables::at;
+use tree_nodes::tables::blank;
 ghost use mathlib.Core.Path.{_≡_};
 ghost use Prim.Native.Nat.{ℕ, _<_};
 ghost use lib.ListN.{length, getD};
 ghost use Rattle.tree_nodes.specs.FileTable.{fileTable, classBy, TreeBytes};
-ghost use Rattle.tree_classes.specs.Leaders.{Weighed};
-ghost use Rattle.tree_weights.specs.Weights.{mix, weightOf};
+ghost use Rattle.tree_weights.specs.Sums.{unlessAttribute};
+ghost use Rattle.tree_weights.specs.Weights.{Weighed, mix, weightOf};
 
 // A label stands above two bytes of the value; a value has up to four, a weight has 32 bits.
 const VALUES: usize = 65536;
@@ -21,6 +24,8 @@ const VALUES: usize = 65536;
 const RANGE: usize = 4294967296;
 
 const SPREAD: usize = 40503;
+
+const TURN: usize = 31;
 
 fn wide(n: u32) -> usize
     ensures { λ r. ⌜ (r ≡ n) × (r < 4294967296) ⌝ }
@@ -37,15 +42,26 @@ fn mixed(tag: usize, worth: usize, sum: usize) -> usize
     spread / NODES * NODES + (sum + 1) % NODES
 }
 
-fn node_weight(tree: &[u8], classes: &[u8; 256], x: usize, sum: usize) -> usize
-    requires { ⌜ TreeBytes (now classes) (now tree) × (x < fileTable (now tree) .size) × (sum < 4294967296) ⌝ }
-    ensures { λ r. ⌜ (r ≡ weightOf (classBy (now (classes .entry))) (fileTable (now (tree .entry))) sum x) × (r < 4294967296) ⌝ }
+fn node_weight(tree: &[u8], classes: &[u8; 256], x: usize, sum: usize, order: usize) -> usize
+    requires { ⌜ TreeBytes (now classes) (now tree) × (x < fileTable (now tree) .size) × (sum < 4294967296) × (order < 65536) ⌝ }
+    ensures { λ r. ⌜ (r ≡ weightOf (classBy (now (classes .entry))) (fileTable (now (tree .entry))) sum order x) × (r < 4294967296) ⌝ }
 {
     let tag = label(tree, x);
     if is_element(classes, tag) {
-        return mixed(tag, 0, sum);
+        return mixed(tag, order, sum);
     }
     mixed(tag, value(tree, x), 0)
+}
+
+// The order so far, with child x of this weight in front; an attribute has no place in it.
+fn with_child(tree: &[u8], classes: &[u8; 256], x: usize, own: usize, order: usize) -> usize
+    requires { ⌜ TreeBytes (now classes) (now tree) × (x < fileTable (now tree) .size) × (own < 4294967296) × (order < 65536) ⌝ }
+    ensures { λ r. ⌜ (r ≡ unlessAttribute (classBy (now (classes .entry))) (fileTable (now (tree .entry))) x own order) × (r < 65536) ⌝ }
+{
+    if is_attribute(classes, label(tree, x)) {
+        return order;
+    }
+    (order * TURN + own / NODES) % VALUES
 }
 
 fn no_weights() -> [u32; 4096]
@@ -60,14 +76,17 @@ pub fn weigh(tree: &[u8], classes: &[u8; 256]) -> [u32; 4096]
 {
     let mut weight = no_weights();
     let mut sums = no_weights();
+    let mut orders = blank();
     let mut i = size(tree);
     while 1 < i {
         i -= 1;
         let above = parent(tree, i);
-        let own = node_weight(tree, classes, i, wide(sums[i]));
+        let own = node_weight(tree, classes, i, wide(sums[i]), at(&orders, i));
         let added = (wide(sums[above]) + own) % RANGE;
+        let order = with_child(tree, classes, i, own, at(&orders, above));
         weight[i] = own as u32;
         sums[above] = added as u32;
+        orders[above] = order as u16;
     }
     weight
 }

@@ -12,11 +12,11 @@ use Rattle.answers.proofs.of_input.Reads as of-input-reads
 use Rattle.records.proofs.profile.read_profile.Reads as read-profile-reads
 use Rattle.tree_checks.proofs.check_under.Reads as check-under-reads
 
--- src/lib.rt:142:9
+-- src/lib.rt:173:16
 read-profile-requires : tie.Need-read-profile-requires
 read-profile-requires c κs = search needs
 
--- src/lib.rt:147:9
+-- src/lib.rt:179:19
 of-input-requires : tie.Need-of-input-requires
 of-input-requires c κs = search needs
 
@@ -28,15 +28,15 @@ enum-known-outcome c = search needs
 enum-told : tie.Need-enum-told
 enum-told c = search needs
 
--- src/lib.rt:150:26
+-- src/lib.rt:182:26
 check-under-requires : tie.Need-check-under-requires
 check-under-requires c κs = let h : length (c .before .before .before .before .before .read-profile .result .classes) ≡ 256 = sym (length-map (c .before .before .before .before .before .read-profile .result .classes) _) ∙ c .before .before .before .before .before .read-profile .ok .1 .1 .1 .0 .1 .0 .1 in (tables-of (c .before .before .before .before .before .read-profile .ensures) (c .before .before .before .of-input .ensures) (search) (omega arith), search (counted-of))
 
--- src/lib.rt:139:1
+-- src/lib.rt:170:1
 returns : tie.Need-returns
 returns c = search (checks-profile-stops)
 
--- src/lib.rt:139:1
+-- src/lib.rt:170:1
 returns-2 : tie.Need-returns-2
 returns-2 c = search needs
 

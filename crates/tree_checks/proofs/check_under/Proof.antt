@@ -7,7 +7,7 @@ use Rattle.tree_checks.proofs.check_under.Lts as lts
 use Rattle.tree_checks.proofs.check_accepted.Reads as check-accepted-reads
 use Rattle.tree_checks.proofs.inputs.read_both.Reads as read-both-reads
 
--- src/lib.rt:131:9
+-- src/lib.rt:162:19
 read-both-requires : tie.Need-read-both-requires
 read-both-requires c κs = search needs
 
@@ -19,15 +19,15 @@ enum-known-outcome c = search needs
 enum-told : tie.Need-enum-told
 enum-told c = search needs
 
--- src/lib.rt:134:26
+-- src/lib.rt:165:26
 check-accepted-requires : tie.Need-check-accepted-requires
 check-accepted-requires c κs = (search (asked-of), search needs)
 
--- src/lib.rt:120:1
+-- src/lib.rt:150:1
 returns : tie.Need-returns
 returns c = search (checks-both-stop)
 
--- src/lib.rt:120:1
+-- src/lib.rt:150:1
 returns-2 : tie.Need-returns-2
 returns-2 c = search needs
 

@@ -5,26 +5,26 @@ use Rattle.tree_checks.proofs.keep_accepted.Tie as tie
 use Rattle.tree_checks.proofs.keep_accepted.Reads as reads
 use Rattle.tree_checks.proofs.keep_accepted.Lts as lts
 use Rattle.checks.proofs.profiles.body_at_front.Reads as body-at-front-reads
+use Rattle.row_classes.proofs.prepare.Reads as prepare-reads
 use Rattle.tree_checks.proofs.keys.breaks.Reads as breaks-reads
-use Rattle.tree_tables.proofs.prepare.Reads as prepare-reads
 
--- src/lib.rt:35:9
+-- src/lib.rt:46:5
 prepare-requires : tie.Need-prepare-requires
-prepare-requires c κs = search (asked-tree)
+prepare-requires c κs = (search (asked-tree), search needs)
 
--- src/lib.rt:40:9
+-- src/lib.rt:47:16
 body-at-front-requires : tie.Need-body-at-front-requires
 body-at-front-requires c κs = search needs
 
--- src/lib.rt:41:8
+-- src/lib.rt:48:8
 breaks-requires : tie.Need-breaks-requires
-breaks-requires c κs = (search needs, search (asked-key))
+breaks-requires c κs = (search needs, search (asked-key), record { tops = search needs; hangs = search needs; sorts = search needs; memos = search needs })
 
--- src/lib.rt:42:9
+-- src/lib.rt:58:9
 returns : tie.Need-returns
 returns c = search (tests-broken)
 
--- src/lib.rt:31:1
+-- src/lib.rt:37:1
 returns-2 : tie.Need-returns-2
 returns-2 c = search (tests-kept)
 

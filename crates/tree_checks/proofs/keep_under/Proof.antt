@@ -7,7 +7,7 @@ use Rattle.tree_checks.proofs.keep_under.Lts as lts
 use Rattle.tree_checks.proofs.inputs.read_both.Reads as read-both-reads
 use Rattle.tree_checks.proofs.keep_accepted.Reads as keep-accepted-reads
 
--- src/lib.rt:52:9
+-- src/lib.rt:68:19
 read-both-requires : tie.Need-read-both-requires
 read-both-requires c κs = search needs
 
@@ -19,15 +19,15 @@ enum-known-outcome c = search needs
 enum-told : tie.Need-enum-told
 enum-told c = search needs
 
--- src/lib.rt:55:26
+-- src/lib.rt:71:26
 keep-accepted-requires : tie.Need-keep-accepted-requires
 keep-accepted-requires c κs = search (asked-of)
 
--- src/lib.rt:48:1
+-- src/lib.rt:64:1
 returns : tie.Need-returns
 returns c = search (tests-both-stop)
 
--- src/lib.rt:48:1
+-- src/lib.rt:64:1
 returns-2 : tie.Need-returns-2
 returns-2 c = search needs
 

@@ -1,22 +1,18 @@
-use Rattle.tree_search.specs.Search.{broken-decides}
+use Rattle.key_search.specs.Best.{first-decides}
 use borrow.Author.Needs.{needs}
 use Rattle.tree_checks.proofs.keys.breaks.Statement.{statement}
 use Rattle.tree_checks.proofs.keys.breaks.Tie as tie
 use Rattle.tree_checks.proofs.keys.breaks.Reads as reads
 use Rattle.tree_checks.proofs.keys.breaks.Lts as lts
-use Rattle.tree_search.proofs.broken_key.Reads as broken-key-reads
+use Rattle.key_search.proofs.search.broken_key.Reads as broken-key-reads
 
--- src/keys.rt:25:75
-slice-aggregate-broken-key : tie.Need-slice-aggregate-broken-key
-slice-aggregate-broken-key c = search needs
-
--- src/keys.rt:25:9
+-- src/keys.rt:32:17
 broken-key-requires : tie.Need-broken-key-requires
 broken-key-requires c κs = search needs
 
--- src/keys.rt:12:1
+-- src/keys.rt:18:1
 returns : tie.Need-returns
-returns c = broken-decides (c .before .broken-key .ensures)
+returns c = (first-decides (c .broken-key .ensures .0), c .broken-key .ensures .2)
 
 pub breaks-spec : {M : Type 1} → statement M
-breaks-spec = tie.close (tie.spec slice-aggregate-broken-key broken-key-requires returns)
+breaks-spec = tie.close (tie.spec broken-key-requires returns)

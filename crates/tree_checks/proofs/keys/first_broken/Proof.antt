@@ -2,6 +2,7 @@ use Prim.Native.Nat.{_-_}
 use native.Mathlib.Omega.{arith}
 use borrow.Author.Needs.{needs}
 use Rattle.tree_nodes.specs.FileTable.{fileTable, classBy}
+use Rattle.key_search.specs.Start.{Lent}
 use Rattle.tree_checks.specs.ProfileKeys.{KeptBelow, kept-none, kept-all, good-body, found-lowest, kept-more}
 use Rattle.tree_checks.proofs.keys.first_broken.Statement.{statement}
 use Rattle.tree_checks.proofs.keys.first_broken.Tie as tie
@@ -12,50 +13,46 @@ use Rattle.places.proofs.record_at.Reads as record-at-reads
 use Rattle.tree_checks.proofs.keys.breaks.Reads as breaks-reads
 
 abbrev Inv-loop : tie.InvT-loop
-Inv-loop profile labels keys tree classes first next class same part n₀ n = KeptBelow (classBy classes) (fileTable tree) profile labels n
+Inv-loop part keys tree classes rows top₀ hung₀ sorted₀ memo₀ n₀ top hung sorted memo n = KeptBelow (classBy classes) (fileTable tree) part n × Lent top hung sorted memo
 
 abbrev μ-loop : tie.MeasureT-loop
-μ-loop profile labels keys tree classes first next class same part n₀ n = keys - n
+μ-loop part keys tree classes rows top₀ hung₀ sorted₀ memo₀ n₀ top hung sorted memo n = keys - n
 
--- src/keys.rt:55:9
+-- src/keys.rt:53:5
+loop-holds : tie.Need-loop-holds Inv-loop μ-loop
+loop-holds c = (kept-none _ _ _, search needs)
+
+-- src/keys.rt:54:20
 record-at-requires : tie.Need-record-at-requires Inv-loop μ-loop
 record-at-requires c κs = search needs
 
--- src/keys.rt:57:5
-loop-holds : tie.Need-loop-holds Inv-loop μ-loop
-loop-holds c = kept-none _ _ _ _
-
--- src/keys.rt:58:13
-record-at-requires-2 : tie.Need-record-at-requires-2 Inv-loop μ-loop
-record-at-requires-2 c κs = search needs
-
--- src/keys.rt:59:13
+-- src/keys.rt:55:20
 body-at-front-requires : tie.Need-body-at-front-requires Inv-loop μ-loop
 body-at-front-requires c κs = search needs
 
--- src/keys.rt:60:12
+-- src/keys.rt:56:12
 breaks-requires : tie.Need-breaks-requires Inv-loop μ-loop
-breaks-requires c κs = (search needs, search (good-body))
+breaks-requires c κs = (search needs, search (good-body), search needs)
 
--- src/keys.rt:61:13
+-- src/keys.rt:57:13
 returns : tie.Need-returns Inv-loop μ-loop
-returns c = search (found-lowest)
+returns c = (found-lowest _ _ (c .before .before .before .before .before .before .before .record-at .ensures) (c .before .before .before .before .before .before .body-at-front .ensures) (c .before .breaks .ensures .0) (c .before .before .before .before .before .before .before .before .before .loop .inv .0) (c .before .before .before .before .before .before .before .before .loop-test .taken) (c .if1 .taken), c .before .breaks .ensures .1)
 
--- src/keys.rt:63:9
+-- src/keys.rt:59:9
 add-n : tie.Need-add-n Inv-loop μ-loop
 add-n c = search needs
 
--- src/keys.rt:57:5
+-- src/keys.rt:53:5
 loop-less : tie.Need-loop-less Inv-loop μ-loop
 loop-less c = omega arith
 
--- src/keys.rt:57:5
+-- src/keys.rt:53:5
 loop-again : tie.Need-loop-again Inv-loop μ-loop
-loop-again c = search (kept-more)
+loop-again c = (kept-more _ _ (c .before .before .before .before .before .before .before .record-at .ensures) (c .before .before .before .before .before .before .body-at-front .ensures) (c .before .breaks .ensures .0) (c .before .before .before .before .before .before .before .before .before .loop .inv .0) (c .if1 .left), c .before .breaks .ensures .1)
 
--- src/keys.rt:41:1
+-- src/keys.rt:37:1
 returns-2 : tie.Need-returns-2 Inv-loop μ-loop
-returns-2 c = search (kept-all)
+returns-2 c = (search (kept-all), search needs)
 
 pub first-broken-spec : {M : Type 1} → statement M
 first-broken-spec =
@@ -63,9 +60,8 @@ first-broken-spec =
     (tie.spec
     Inv-loop
     μ-loop
-    record-at-requires
     loop-holds
-    record-at-requires-2
+    record-at-requires
     body-at-front-requires
     breaks-requires
     returns

@@ -1,0 +1,5 @@
+-- Child links and classes in place in the rows of a tree.
+pub mod Leaders
+pub mod Lowest
+pub mod Only
+pub mod InRows
