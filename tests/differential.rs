@@ -22,6 +22,8 @@ mod evidence;
 #[path = "differential/files.rs"]
 mod files;
 mod reference;
+#[path = "differential/spelling.rs"]
+mod spelling;
 #[path = "differential/wrong_lines.rs"]
 mod wrong_lines;
 
@@ -124,7 +126,7 @@ fn run(words: &[&str]) -> Result<bool> {
             Ok(is_accepted(check_cases, &mut stdin().lock(), &mut Differences::new(folder)))
         }
         ["wrong", _, _] => Ok(wrong_lines::are_caught(seed, count, &mut stdin().lock())),
-        ["self", _, _] => Ok(consistency::is_consistent(seed, count)),
+        ["self", _, _] => Ok(spelling::is_one() && consistency::is_consistent(seed, count)),
         _ => usage(),
     }
 }

@@ -1,5 +1,5 @@
 -- Labels, paths and words: document 01, "Trees, paths and keys", and 001, section 2.2.
-use Prim.Native.Nat.{ℕ, zero, suc}
+use Prim.Native.Nat.{ℕ, zero, suc, _<_}
 use mathlib.Core.Path.{_≡_}
 use mathlib.Core.Bool.{Bool, true, false, cond, _&&_, _||_, not}
 use mathlib.Core.List.{List, [], _∷_, _++_}
@@ -100,3 +100,16 @@ valid κ (s ∷ t ∷ p) = (eqb s 0 || isElement (κ s)) && valid κ (t ∷ p)
 -- "P is included in Q if every valid word of P, over all labels with 201 and 202, is a word of Q."
 unfoldable pub Included : List Label → List ℕ → List ℕ → Type 0
 Included labels P Q = (word : List ℕ) → T (every (isLabel labels) word) → T (valid (classOf labels) word) → T (member P word) → T (member Q word)
+
+-- 02, request 13: "two valid paths .. have the same words". A word is a run of labels, and 0 is no label; only valid words are asked
+unfoldable pub SameWords : (ℕ → Class) → List ℕ → List ℕ → Type 0
+SameWords κ P Q = (word : List ℕ) → T (simple word) → T (valid κ word) → member P word ≡ member Q word
+
+-- "with labels taken without end, so that some element label is in neither path"
+pub record ElementBeyond (κ : ℕ → Class) (n : ℕ) : Type 0 where
+  pub label : ℕ
+  pub beyond : n < label
+  pub isItsClass : κ label ≡ element
+
+unfoldable pub Endless : (ℕ → Class) → Type 0
+Endless κ = (n : ℕ) → ElementBeyond κ n

@@ -12,7 +12,7 @@ use lib.Seq.{slice-empty, slice-cons}
 use Rattle.meaning.specs.Trees.{Node, tableOf, Child, Down, here, step}
 use Rattle.meaning.specs.Keys.{Key}
 use Rattle.meaning.specs.Pattern.{drawn, pattern, tOf}
-use Rattle.theory_paths.specs.Inclusion.{fill}
+use Rattle.theory_paths.specs.Inclusion.{fill, fillBy}
 use Rattle.theory_derive.specs.Logic.{less-or}
 use Rattle.theory_derive.specs.Spots.{branchOf, lineOf, part}
 use Rattle.theory_derive.specs.Lines.{line-length}
@@ -104,7 +104,7 @@ module _ (asked : Key) where
 -- ---- runs of labels
 
 pub fill-cons : (s : ℕ) (P : List ℕ) → fill (s ∷ P) ≡ drawn s ∷ fill P
-unfolding fill drawn
+unfolding fillBy drawn
 fill-cons zero P = refl
 fill-cons (suc a) P = ap (λ (b : Bool). cond b 201 (suc a) ∷ fill P) (sym (eqb·suc-zero a))
 
@@ -125,7 +125,7 @@ pub record Begins (asked : Key) (j k v : ℕ) (run : List ℕ) : Type 0 where
 
 module _ (asked : Key) where
   pub spot-down : (d i j k : ℕ) → k ≡ i + d → IsSpot asked j k → Down (pattern asked) (spotNode asked j i) (fill (part i k (lineOf asked j))) (spotNode asked j k)
-  unfolding fill
+  unfolding fillBy
   spot-down zero i j k e s =
       subst (λ r. Down (pattern asked) (spotNode asked j i) r (spotNode asked j k))
       (ap fill (sym (part-empty i k (lineOf asked j) (let z : i ≡ k = omega arith in z))))
@@ -136,7 +136,7 @@ module _ (asked : Key) where
       (spot-label asked j i (spot-above asked j (suc i) k (omega arith) s)) (spot-down d (suc i) j k (omega arith) s))
 
   pub down-spot : (j k : ℕ) → IsSpot asked j k → {v w : ℕ} {run : List ℕ} → Down (pattern asked) v run w → w ≡ spotNode asked j k → Begins asked j k v run
-  unfolding fill
+  unfolding fillBy
   down-spot j k s (here p) e =
       record { top = k; above = omega arith; place = p ∙ e; reads = ap fill (sym (part-empty k k (lineOf asked j) refl)) }
   down-spot j k s (step {v} {l} {ls} x c q d) e = go (down-spot j k s d e)

@@ -7,7 +7,7 @@ use mathlib.Core.List.{List}
 use native.Mathlib.Omega.{arith}
 use lib.Dec.{T}
 use lib.ListN.{length, take, length-take, length-drop}
-use Rattle.meaning.specs.Limits.{inProfile}
+use Rattle.meaning.specs.Limits.{fillerElement, inProfile}
 use Rattle.meaning.specs.Lists.{Each}
 use Rattle.meaning.specs.Paths.{Label, member, simple}
 use Rattle.meaning.specs.Trees.{Reached}
@@ -27,10 +27,10 @@ use Rattle.theory_derive.specs.Marks.{marked-says, marked-test}
 
 -- a path that the symbols are a word of is a path that the labels are a word of, 201 standing for 0
 fill-member : (P X : List ℕ) → T (member P X) → T (member P (fill X))
-fill-member P X h = word→member P (fill X) (word-trans X P (fill X) (member→word P X h) (fill-word X))
+fill-member P X h = word→member P (fill X) (word-trans X P (fill X) (member→word P X h) (fill-word fillerElement X))
 
 unfill-member : (P X : List ℕ) → T (noFiller P) → T (member P (fill X)) → T (member P X)
-unfill-member P X c h = word→member P X (unfill-word P X c (member→word P (fill X) h))
+unfill-member P X c h = word→member P X (unfill-word fillerElement P X c (member→word P (fill X) h))
 
 part-length : (i k : ℕ) (l : List ℕ) → k ≤ length l → length (part i k l) ≡ k - i
 unfolding part
@@ -119,7 +119,7 @@ module _ (labels : List Label) (gl : GoodLabels labels) (asked : Key) (g : GoodK
           let line = lineOf asked (m .branch) in
           let reads : part (b .top) (m .depth) line ≡ p =
           simple-word p (part (b .top) (m .depth) line) simp
-          (unfill-word p (part (b .top) (m .depth) line) clear (member→word p (fill (part (b .top) (m .depth) line)) (subst (λ r. T (member p r)) (b .reads) (h .reached .word)))) in
+          (unfill-word fillerElement p (part (b .top) (m .depth) line) clear (member→word p (fill (part (b .top) (m .depth) line)) (subst (λ r. T (member p r)) (b .reads) (h .reached .word)))) in
           let end : m .depth ≡ k + length p = omega (arith, o .0, ap length reads, part-length (b .top) (m .depth) line (m .spot .onLine), b .above) in
           record {
             at = m .branch;

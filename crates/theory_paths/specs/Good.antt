@@ -1,8 +1,8 @@
 -- What acceptance by refusals 3 to 6 gives, in usable form: labels between 2 and 200, and keys whose parts are normal, simple, within
 -- their limits and valid together.
-use Prim.Native.Nat.{ℕ, suc, _≤_, _<_}
+use Prim.Native.Nat.{ℕ, suc, _+_, _≤_, _<_}
 use native.Mathlib.Omega.{arith}
-use mathlib.Core.Path.{_≡_, refl, sym, ap, subst, _∙_}
+use mathlib.Core.Path.{_≡_, refl, sym, ap, ap₂, subst, _∙_}
 use mathlib.Core.Logic.{_⊎_, inl, inr}
 use mathlib.Core.Bool.{Bool, true, false, cond, _&&_, _||_, not}
 use mathlib.Core.List.{List, [], _∷_, _++_, append-assoc, List·Memᴰ, List·Memᴰ·head, List·Memᴰ·append-cases, List·Memᴰ·eq-of-singleton, List·Memᴰ·not-nil}
@@ -11,7 +11,7 @@ use lib.ListN.{length}
 use Rattle.meaning.specs.Limits
 use Rattle.meaning.specs.Limits.{KeyLimits, textLabel, fillerElement, fillerAttribute, rootLabel}
 use Rattle.meaning.specs.Lists.{every, any, ascending}
-use Rattle.meaning.specs.Paths.{Class, Label, element, attribute, isElement, declared, declaredClass, classOf, isLabel, normal, simple, join, valid, member, Included}
+use Rattle.meaning.specs.Paths.{Class, Label, element, attribute, text, isElement, declared, declaredClass, classOf, isLabel, normal, simple, join, valid, member, Included, Endless}
 use Rattle.meaning.specs.Keys.{Key}
 use Rattle.meaning.specs.Refusals
 use Rattle.meaning.specs.Refusals.{goodLabel, isSymbol, goodPath, goodSymbols, goodSet, keyTests, firstOf}
@@ -20,7 +20,8 @@ use Rattle.theory_paths.specs.Words.{member→word, word→member}
 use Rattle.theory_paths.specs.Simple.{simple-normal}
 use Rattle.theory_paths.specs.Valid.{valid-left, valid-right, valid-norm}
 use Rattle.theory_paths.specs.Normal.{join-three}
-use Rattle.theory_paths.specs.Inclusion.{inPath, noFiller, included-of-word, word-of-included}
+use Rattle.theory_paths.specs.Inclusion.{inPath, avoids, noFiller, included-of-word, word-of-included}
+use Rattle.theory_paths.specs.Spelling.{one-spelling-words}
 
 -- "Labels 2 to 200 are declared": each declared number is between them
 pub record GoodLabels (labels : List Label) : Type 0 where
@@ -110,7 +111,7 @@ module _ (labels : List Label) (g : GoodLabels labels) where
       go (inr d) = undeclared-high s h d
 
   pub symbols-clear : (P : List ℕ) → T (every (isSymbol labels) P) → T (noFiller P)
-  unfolding noFiller
+  unfolding avoids
   symbols-clear P t =
       every-map (isSymbol labels) (λ (s : ℕ). not (eqb s fillerElement)) P
       (λ s i. neqb-of s fillerElement (λ e. symbol-not-high s (omega arith) i)) t
@@ -278,3 +279,23 @@ module _ (labels : List Label) (limits : KeyLimits) (k : Key) (g : GoodKey label
 
     pub key-path-clear : (P : List ℕ) → List·Memᴰ P (k .paths) → T (noFiller P)
     key-path-clear P m = symbols-clear labels h P (key-path-symbols P m)
+
+-- 02, request 13, "labels taken without end": every number beyond 203 is an element label of a profile's classes, so `one-spelling` speaks of them
+pub labels-endless : (labels : List Label) → GoodLabels labels → Endless (classOf labels)
+unfolding Endless classOf
+labels-endless labels good n =
+    let l = n + 204 in
+    record {
+      label = l;
+      beyond = omega arith;
+      isItsClass = ap₂ (λ (b c : Bool). cond b text (cond c attribute (declaredClass labels l)))
+          (false-of (eqb l textLabel) (λ t. let z = eqb→eq l 1 t in omega arith))
+          (false-of (eqb l fillerAttribute) (λ t. let z = eqb→eq l 202 t in omega arith))
+          ∙ undeclared-class labels l (undeclared-high labels good l (omega arith));
+    }
+
+-- 02, request 13, of our files: two accepted paths that are included in one another are the same symbols
+pub file-spelling : (labels : List Label) → GoodLabels labels → (P Q : List ℕ) → T (every (isSymbol labels) P) → T (every (isSymbol labels) Q)
+    → T (valid (classOf labels) P) → T (valid (classOf labels) Q) → T (normal P) → T (normal Q) → Included labels P Q → Included labels Q P → P ≡ Q
+file-spelling labels good P Q sp sq vp vq np nq h k =
+    one-spelling-words P Q np nq (member→word Q P (included-good labels good P Q sp sq vp .0 h)) (member→word P Q (included-good labels good Q P sq sp vq .0 k))

@@ -15,82 +15,92 @@ use Rattle.theory_paths.specs.Valid.{mayStep, valid-put, valid-first, va
 unfoldable pub inPath : List Label → ℕ → Bool
 inPath labels s = eqb s 0 || isLabel labels s
 
+-- A label f in each any-path's place. 201 serves for inclusion; for the spelling of a path (`Spelling`) a label that is in neither path.
+module _ (f : ℕ) where
+  -- no symbol is f
+  unfoldable pub avoids : List ℕ → Bool
+  avoids P = every (λ (s : ℕ). not (eqb s f)) P
+
+  -- the word that has f for each 0
+  unfoldable pub fillBy : List ℕ → List ℕ
+  fillBy [] = []
+  fillBy (zero ∷ P) = f ∷ fillBy P
+  fillBy (suc a ∷ P) = suc a ∷ fillBy P
+
+  pub fill-word : (P : List ℕ) → Word P (fillBy P)
+  unfolding Word fillBy
+  fill-word [] = refl
+  fill-word (zero ∷ P) = (f ∷ [], fillBy P, refl, fill-word P)
+  fill-word (suc a ∷ P) = (fillBy P, refl, fill-word P)
+
+  -- the parts of a filled path are filled paths
+  fill-parts : (P u v : List ℕ) → fillBy P ≡ u ++ v → (X : List ℕ) × (Y : List ℕ) × (P ≡ X ++ Y) × (fillBy X ≡ u) × (fillBy Y ≡ v)
+  unfolding fillBy
+  fill-parts P [] v e = ([], P, refl, refl, e)
+  fill-parts [] (x ∷ u) v e = absurd (nil≢cons e)
+  fill-parts (zero ∷ P) (x ∷ u) v e =
+      let r = fill-parts P u v (tail-eq-of-cons-eq e) in
+      (zero ∷ r .0, r .1, ap (λ (l : List ℕ). zero ∷ l) (r .2), ap₂ _∷_ (head-eq-of-cons-eq e) (r .3), r .4)
+  fill-parts (suc a ∷ P) (x ∷ u) v e =
+      let r = fill-parts P u v (tail-eq-of-cons-eq e) in
+      (suc a ∷ r .0, r .1, ap (λ (l : List ℕ). suc a ∷ l) (r .2), ap₂ _∷_ (head-eq-of-cons-eq e) (r .3), r .4)
+
+  -- f is no symbol of Q, so only any-paths took it, and 0 may be put back
+  pub unfill-word : (Q P : List ℕ) → T (avoids Q) → Word Q (fillBy P) → Word Q P
+  unfolding Word avoids fillBy
+  unfill-word [] [] t h = refl
+  unfill-word [] (zero ∷ P) t h = absurd (cons≢nil h)
+  unfill-word [] (suc a ∷ P) t h = absurd (cons≢nil h)
+  unfill-word (zero ∷ Q) P t h =
+      let r = fill-parts P (h .0) (h .1) (h .2) in
+      (r .0, r .1, r .2, unfill-word Q (r .1) (every-tail (λ (s : ℕ). not (eqb s f)) zero Q t) (subst (λ (l : List ℕ). Word Q l) (sym (r .4)) (h .3)))
+  unfill-word (suc a ∷ Q) [] t h = absurd (nil≢cons (h .1))
+  unfill-word (suc a ∷ Q) (zero ∷ P) t h =
+      absurd (ne-of-neqb (suc a) f (every-head (λ (s : ℕ). not (eqb s f)) (suc a) Q t) (sym (head-eq-of-cons-eq (h .1))))
+  unfill-word (suc a ∷ Q) (suc b ∷ P) t h = (
+    P,
+    ap (λ (k : ℕ). k ∷ P) (head-eq-of-cons-eq (h .1)),
+    unfill-word Q P (every-tail (λ (s : ℕ). not (eqb s f)) (suc a) Q t)
+        (subst (λ (l : List ℕ). Word Q l) (sym (tail-eq-of-cons-eq (h .1))) (h .2)),
+  )
+
+  isEmpty-fill : (P : List ℕ) → isEmpty (fillBy P) ≡ isEmpty P
+  unfolding fillBy isEmpty
+  isEmpty-fill [] = refl
+  isEmpty-fill (zero ∷ P) = refl
+  isEmpty-fill (suc a ∷ P) = refl
+
+  pub fill-valid : (κ : ℕ → Class) → T (isElement (κ f)) → (P : List ℕ) → T (valid κ P) → T (valid κ (fillBy P))
+  unfolding fillBy valid mayStep
+  fill-valid κ e [] t = tt
+  fill-valid κ e (zero ∷ P) t =
+      valid-put κ f (fillBy P) (or-right (isEmpty (fillBy P)) (mayStep κ f) (or-right (eqb f 0) (isElement (κ f)) e))
+      (fill-valid κ e P (valid-tail κ zero P t))
+  fill-valid κ e (suc a ∷ P) t =
+      valid-put κ (suc a) (fillBy P) (subst (λ (b : Bool). T (b || mayStep κ (suc a))) (sym (isEmpty-fill P)) (valid-first κ (suc a) P t))
+      (fill-valid κ e P (valid-tail κ (suc a) P t))
+
 -- no symbol is the filler element
-unfoldable pub noFiller : List ℕ → Bool
-noFiller P = every (λ (s : ℕ). not (eqb s fillerElement)) P
+abbrev pub noFiller : List ℕ → Bool
+noFiller = avoids fillerElement
 
 -- the word that has 201 for each 0
-unfoldable pub fill : List ℕ → List ℕ
-fill [] = []
-fill (zero ∷ P) = fillerElement ∷ fill P
-fill (suc a ∷ P) = suc a ∷ fill P
+abbrev pub fill : List ℕ → List ℕ
+fill = fillBy fillerElement
 
-pub fill-word : (P : List ℕ) → Word P (fill P)
-unfolding Word fill
-fill-word [] = refl
-fill-word (zero ∷ P) = (fillerElement ∷ [], fill P, refl, fill-word P)
-fill-word (suc a ∷ P) = (fill P, refl, fill-word P)
-
--- the parts of a filled path are filled paths
-pub fill-parts : (P u v : List ℕ) → fill P ≡ u ++ v → (X : List ℕ) × (Y : List ℕ) × (P ≡ X ++ Y) × (fill X ≡ u) × (fill Y ≡ v)
-unfolding fill
-fill-parts P [] v e = ([], P, refl, refl, e)
-fill-parts [] (x ∷ u) v e = absurd (nil≢cons e)
-fill-parts (zero ∷ P) (x ∷ u) v e =
-    let r = fill-parts P u v (tail-eq-of-cons-eq e) in
-    (zero ∷ r .0, r .1, ap (λ (l : List ℕ). zero ∷ l) (r .2), ap₂ _∷_ (head-eq-of-cons-eq e) (r .3), r .4)
-fill-parts (suc a ∷ P) (x ∷ u) v e =
-    let r = fill-parts P u v (tail-eq-of-cons-eq e) in
-    (suc a ∷ r .0, r .1, ap (λ (l : List ℕ). suc a ∷ l) (r .2), ap₂ _∷_ (head-eq-of-cons-eq e) (r .3), r .4)
-
--- 201 is no symbol of Q, so only any-paths took it, and 0 may be put back
-pub unfill-word : (Q P : List ℕ) → T (noFiller Q) → Word Q (fill P) → Word Q P
-unfolding Word noFiller fill
-unfill-word [] [] t h = refl
-unfill-word [] (zero ∷ P) t h = absurd (cons≢nil h)
-unfill-word [] (suc a ∷ P) t h = absurd (cons≢nil h)
-unfill-word (zero ∷ Q) P t h =
-    let r = fill-parts P (h .0) (h .1) (h .2) in
-    (r .0, r .1, r .2, unfill-word Q (r .1) (every-tail (λ (s : ℕ). not (eqb s fillerElement)) zero Q t) (subst (λ (l : List ℕ). Word Q l) (sym (r .4)) (h .3)))
-unfill-word (suc a ∷ Q) [] t h = absurd (nil≢cons (h .1))
-unfill-word (suc a ∷ Q) (zero ∷ P) t h =
-    absurd
-    (ne-of-neqb (suc a) fillerElement (every-head (λ (s : ℕ). not (eqb s fillerElement)) (suc a) Q t) (sym (head-eq-of-cons-eq (h .1))))
-unfill-word (suc a ∷ Q) (suc b ∷ P) t h = (
-  P,
-  ap (λ (k : ℕ). k ∷ P) (head-eq-of-cons-eq (h .1)),
-  unfill-word Q P (every-tail (λ (s : ℕ). not (eqb s fillerElement)) (suc a) Q t)
-      (subst (λ (l : List ℕ). Word Q l) (sym (tail-eq-of-cons-eq (h .1))) (h .2)),
-)
-
--- the filled path is a word over the labels, and valid
+-- the path filled by 201 is a word over the labels
 filler-label : (labels : List Label) → T (isLabel labels fillerElement)
 unfolding isLabel
 filler-label labels = or-left (declared labels fillerElement || true) false (or-right (declared labels fillerElement) true tt)
 
 fill-labels : (labels : List Label) (P : List ℕ) → T (every (inPath labels) P) → T (every (isLabel labels) (fill P))
-unfolding fill every inPath
+unfolding fillBy every inPath
 fill-labels labels [] t = tt
 fill-labels labels (zero ∷ P) t = both (isLabel labels fillerElement) (every (isLabel labels) (fill P)) (filler-label labels) (fill-labels labels P t)
 fill-labels labels (suc a ∷ P) t =
     both (isLabel labels (suc a)) (every (isLabel labels) (fill P))
     (subst (λ (b : Bool). T (b || isLabel labels (suc a))) (eqb·suc-zero a) (and-left (inPath labels (suc a)) (every (inPath labels) P) t))
     (fill-labels labels P (and-right (inPath labels (suc a)) (every (inPath labels) P) t))
-
-isEmpty-fill : (P : List ℕ) → isEmpty (fill P) ≡ isEmpty P
-unfolding fill isEmpty
-isEmpty-fill [] = refl
-isEmpty-fill (zero ∷ P) = refl
-isEmpty-fill (suc a ∷ P) = refl
-
-pub fill-valid : (κ : ℕ → Class) → T (isElement (κ fillerElement)) → (P : List ℕ) → T (valid κ P) → T (valid κ (fill P))
-unfolding fill valid mayStep
-fill-valid κ f [] t = tt
-fill-valid κ f (zero ∷ P) t =
-    valid-put κ fillerElement (fill P) (or-right (isEmpty (fill P)) (mayStep κ fillerElement) f) (fill-valid κ f P (valid-tail κ zero P t))
-fill-valid κ f (suc a ∷ P) t =
-    valid-put κ (suc a) (fill P) (subst (λ (b : Bool). T (b || mayStep κ (suc a))) (sym (isEmpty-fill P)) (valid-first κ (suc a) P t))
-    (fill-valid κ f P (valid-tail κ (suc a) P t))
 
 -- any word of P, whatever its labels are, is a word of Q
 pub included-any : (P Q w : List ℕ) → Word Q P → T (member P w) → T (member Q w)
@@ -104,9 +114,10 @@ pub word-of-included : (labels : List Label) (P Q : List ℕ) → T (noFiller Q)
     → T (isElement (classOf labels fillerElement)) → Included labels P Q → Word Q P
 unfolding Included
 word-of-included labels P Q clear known isValid filler h =
-    unfill-word Q P clear
+    unfill-word fillerElement Q P clear
     (member→word Q (fill P)
-    (h (fill P) (fill-labels labels P known) (fill-valid (classOf labels) filler P isValid) (word→member P (fill P) (fill-word P))))
+    (h (fill P) (fill-labels labels P known) (fill-valid fillerElement (classOf labels) filler P isValid)
+    (word→member P (fill P) (fill-word fillerElement P))))
 
 -- "P is included in Q if every valid word of P, over all labels with 201 and 202, is a word of Q": exactly when P is a word of Q
 pub included-iff : (labels : List Label) (P Q : List ℕ) → T (noFiller Q) → T (every (inPath labels) P) → T (valid (classOf labels) P)

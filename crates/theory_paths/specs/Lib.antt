@@ -5,4 +5,5 @@ pub mod Normal
 pub mod Simple
 pub mod Valid
 pub mod Inclusion
+pub mod Spelling
 pub mod Good
