@@ -1,11 +1,12 @@
 // Words and inclusion (document 01, "Trees, paths and keys"; ARGUMENT §1). A path and a run of labels are slices of symbols; each
 // contract cites the definition in `meaning`.
 ghost use mathlib.Core.Path.{_≡_};
-ghost use Prim.Native.Nat.{_≤_};
-ghost use lib.ListN.{length};
+ghost use mathlib.Core.List.{[]};
+ghost use Prim.Native.Nat.{_-_, _≤_, _<_};
+ghost use lib.ListN.{length, getD};
 ghost use Rattle.meaning.specs.Paths.{member as isMember};
 ghost use Rattle.paths.specs.Search.{Told};
-ghost use Rattle.paths.specs.Square.{Filled, Above, Beside, isMark};
+ghost use Rattle.paths.specs.Rows.{markOf, TwoRows, Stepped};
 
 // "Symbol 0 in a path is the any-path".
 pub const ANY_PATH: u8 = 0;
@@ -62,60 +63,63 @@ pub fn member(run: &[u8], path: &[u8]) -> bool
     }
 }
 
-// A path of a proof line has at most 32 symbols, so a row has at most 33 marks, one for each end of the path.
+// A path of a proof line has at most 32 symbols and so at most 33 ends; a row has a mark for each end of P.
 const ROW: usize = 33;
 
-const SQUARE: usize = 1089;
+// "no more than two rows of marks" (02, request 4): row `old` speaks of an end of Q, the other one is filled for the end one symbol longer.
+const ROWS: usize = 2;
 
-// The mark at (i, j): the end of p from i on is a word of the end of q from j on.
-fn mark(marks: &[bool; SQUARE], p: &[u8], q: &[u8], i: usize, j: usize) -> bool
-    requires { ⌜ Beside (now marks) (now p) (now q) i j ⌝ }
-    ensures { λ r. ⌜ r ≡ isMark (now (p .entry)) (now (q .entry)) i j ⌝ }
+// Mark i of the row that is filled: the end of P from i on is a word of the path with this symbol in front of what row `old` speaks of.
+fn mark(rows: &[[bool; ROW]; ROWS], old: usize, p: &[u8], symbol: u8, i: usize) -> bool
+    requires { ⌜ (old < 2) × (i ≤ length (now p)) × (length (now p) ≤ 32) ⌝ }
+    ensures { λ r. ⌜ r ≡ markOf (getD (now (rows .entry)) old []) (getD (now (rows .entry)) (1 - old) []) (now (p .entry)) symbol i ⌝ }
 {
-    if j == q.len() {
-        return i == p.len();
-    }
-    if q[j] == ANY_PATH {
-        if marks[i * ROW + j + 1] {
+    if symbol == ANY_PATH {
+        if rows[old][i] {
             return true;
         }
-        if i == p.len() {
-            return false;
+        if i < p.len() {
+            return rows[1 - old][i + 1];
         }
-        return marks[(i + 1) * ROW + j];
-    }
-    if i == p.len() {
         return false;
     }
-    if p[i] != q[j] {
-        return false;
+    if i < p.len() {
+        if p[i] == symbol {
+            return rows[old][i + 1];
+        }
     }
-    marks[(i + 1) * ROW + j + 1]
+    false
 }
 
-// Row i of the square, from its last mark to its first.
-fn mark_row(marks: &mut [bool; SQUARE], p: &[u8], q: &[u8], i: usize)
-    requires { ⌜ Above (now marks) (now p) (now q) i ⌝ }
-    ensures { λ _. ⌜ Filled (now (marks .exit)) (now (p .entry)) (now (q .entry)) i ⌝ }
+// Fills the row that is not `old` for the path with this symbol in front, from its last mark to its first.
+fn next_row(rows: &mut [[bool; ROW]; ROWS], old: usize, p: &[u8], symbol: u8)
+    requires { ⌜ (old < 2) × (length (now p) ≤ 32) × TwoRows (now rows) ⌝ }
+    ensures { λ _. ⌜ Stepped (now (rows .entry)) (now (rows .exit)) old (now (p .entry)) symbol ⌝ }
 {
-    let mut left = q.len() + 1;
+    let mut left = p.len() + 1;
     while 0 < left {
         left -= 1;
-        let word = mark(&*marks, p, q, i, left);
-        marks[i * ROW + left] = word;
+        let word = mark(&*rows, old, p, symbol, left);
+        rows[1 - old][left] = word;
     }
 }
 
 // P is a word of Q, its own any-path read as a label that only an any-path takes: for a valid P, that is inclusion (ARGUMENT §1).
+// "the rows exchanged symbol by symbol", from Q's last symbol to its first: they exchange their roles, so nothing is copied.
 pub fn included(p: &[u8], q: &[u8]) -> bool
     requires { ⌜ (length (now p) ≤ 32) × (length (now q) ≤ 32) ⌝ }
     ensures { λ r. ⌜ r ≡ isMember (now (q .entry)) (now (p .entry)) ⌝ }
 {
-    let mut marks = [false; SQUARE];
-    let mut left = p.len() + 1;
+    let end = p.len();
+    let mut rows = [[false; ROW]; ROWS];
+    rows[0][end] = true;
+    let mut old: usize = 0;
+    let mut left = q.len();
     while 0 < left {
         left -= 1;
-        mark_row(&mut marks, p, q, left);
+        let symbol = q[left];
+        next_row(&mut rows, old, p, symbol);
+        old = 1 - old;
     }
-    marks[0]
+    rows[old][0]
 }
