@@ -2,7 +2,7 @@
 use Prim.Native.Nat.{ℕ, zero, suc, _+_, _≤_, _<_}
 use mathlib.Core.Path.{_≡_, refl, sym, _∙_, ap, subst}
 use mathlib.Core.Logic.{inl, inr}
-use mathlib.Core.Bool.{Bool, true, false}
+use mathlib.Core.Bool.{Bool}
 use mathlib.Core.List.{List, [], _∷_}
 use mathlib.Core.Option.{some, Option·some-injective}
 use native.Mathlib.Omega.{arith}
@@ -15,8 +15,9 @@ use Rattle.meaning.specs.Paths.{Label, Class, classOf, simple}
 use Rattle.meaning.specs.Trees.{Table, tableOf}
 use Rattle.meaning.specs.Keys.{Key, Breaks, Keeps, FirstWitness}
 use Rattle.meaning.specs.Records.{recordBody, recordKind, keyIn}
-use Rattle.meaning.specs.Refusals.{firstEntry, nodesIn, questionIn, treeRefusal}
-use Rattle.meaning.specs.Operations.{TestsTree, ChecksCounterexample, CounterexampleJudged, refusedBy, plain, shown, brokenBy, kept, broken, accepted, secondIn, labelsIn, keysIn, recordsFrom, treeIn, KeepsIn, FirstIn}
+use Rattle.meaning.specs.Refusals.{firstEntry, nodesIn, questionIn}
+use Rattle.meaning.specs.Refusals
+use Rattle.meaning.specs.Operations.{TestsTree, ChecksCounterexample, refusedBy, plain, shown, brokenBy, kept, broken, accepted, secondIn, labelsIn, keysIn, recordsFrom, treeIn, KeepsIn, FirstIn}
 use Rattle.meaning.specs.Operations.CounterexampleJudged.{breaksKey, keepsQuestion, refutes}
 use Rattle.shapes.specs.Classes.{Tabled, classBy}
 use Rattle.theory_paths.specs.Bools.{each-every}
@@ -204,11 +205,12 @@ module _ {profile classes : List ℕ} {second : Bool} {labels keys : ℕ} (count
           unless-sound _ [] _ _ (none-refuses _ _ (counted .ready) (here asked (counted .ready)))
           (refutes (all-kept all) (numbersOf w) (first-of-question asked (counted .ready) isBody so e) refl)
 
-      pub keeps-all : tested ≡ T.Kept → ChecksCounterexample profile question tree (refusedBy (record { number = 13; input = 3; place = 0 }) [])
+      pub keeps-all : tested ≡ T.Kept → {r : Refusal} → meant r ≡ record { number = 13; input = 3; place = 0 }
+          → ChecksCounterexample profile question tree (refusedBy (meant r) [])
       unfolding ChecksCounterexample
-      keeps-all e =
+      keeps-all e named =
           unless-sound _ [] _ _ (none-refuses _ _ (counted .ready) (here asked (counted .ready)))
-          (keepsQuestion (all-kept all) (keeps-question asked (counted .ready) isBody so e) refl)
+          (keepsQuestion (all-kept all) (keeps-question asked (counted .ready) isBody so e) (ap (λ (x : Refusals.Refusal). refusedBy x []) named))
 
 -- the refusals of either operation
 pub tests-profile-stops : {profile classes : List ℕ} {judged : Judged} {second : Bool} {labels keys : ℕ} → ProfileSays profile judged classes second labels keys → {o : Outcome}

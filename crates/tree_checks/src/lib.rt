@@ -24,10 +24,11 @@ use tree_nodes::fields::NODES;
 use tree_rows::hung::HUNG;
 use tree_rows::rows::ROWS;
 ghost use Prim.Native.Nat.{ℕ};
+ghost use mathlib.Core.Path.{_≡_};
 ghost use mathlib.Core.List.{List};
 ghost use Rattle.meaning.specs.Operations.{TestsTree, ChecksCounterexample};
 ghost use Rattle.checks.specs.Found.{ReadyIn, Tables};
-ghost use Rattle.answers.specs.Cases.{keepingAnswer, counteringAnswer};
+ghost use Rattle.answers.specs.Cases.{meant, keepingAnswer, counteringAnswer};
 ghost use Rattle.tree_checks.specs.Asked.{Asked, Counted};
 
 // 13: "the tree keeps the question". (12 stands in the reading of `Countering::Breaks`.)
@@ -88,6 +89,17 @@ pub fn keep(profile: &[u8], question: &[u8], tree: &[u8]) -> Keeping
     }
 }
 
+// Refusal 13.
+fn keeps_question() -> Refusal
+    ensures { λ r. ⌜ meant r ≡ record { number = 13; input = 3; place = 0 } ⌝ }
+{
+    Refusal {
+        number: KEEPS_THE_QUESTION,
+        input: TREE_OR_PROOF,
+        place: 0,
+    }
+}
+
 // The answer for an accepted question and an accepted tree: 12 with the lowest broken key and its witness, then 13. All tables are made once, here, and
 // lent to every key in turn.
 fn check_accepted(
@@ -138,11 +150,7 @@ fn check_accepted(
     );
     match tested {
         Tested::Broken(shown) => Countering::Accepted(shown),
-        Tested::Kept => Countering::Refused(Refusal {
-            number: KEEPS_THE_QUESTION,
-            input: TREE_OR_PROOF,
-            place: 0,
-        }),
+        Tested::Kept => Countering::Refused(keeps_question()),
     }
 }
 

@@ -8,6 +8,7 @@ use Rattle.tree_checks.proofs.check_accepted.Lts as lts
 use Rattle.checks.proofs.profiles.body_at_front.Reads as body-at-front-reads
 use Rattle.places.proofs.record_at.Reads as record-at-reads
 use Rattle.row_classes.proofs.prepare.Reads as prepare-reads
+use Rattle.tree_checks.proofs.keeps_question.Reads as keeps-question-reads
 use Rattle.tree_checks.proofs.keys.first_broken.Reads as first-broken-reads
 use Rattle.tree_checks.proofs.keys.test_key.Reads as test-key-reads
 use Rattle.tree_checks.proofs.keys.witness_of.Reads as witness-of-reads
@@ -39,11 +40,14 @@ enum-known-tested c = search needs
 enum-told : tie.Need-enum-told
 enum-told c = search needs
 
+keeps-question-requires : tie.Need-keeps-question-requires
+keeps-question-requires c κs = search needs
+
 returns-2 : tie.Need-returns-2
 returns-2 c = search (counterexample, c .before .before .before .before .before .before .before .before .before .before .before .before .before .before .before .before .before .before .before .before .before .before .before .pre .1, c .before .before .before .before .before .before .before .before .before .before .before .before .before .before .before .before .before .record-at .ensures, c .before .before .before .before .before .before .before .before .before .before .before .before .before .before .before .before .before .before .before .before .before .before .before .pre .0, c .before .before .before .before .before .before .before .before .before .before .before .first-broken .ensures .0, c .before .before .before .before .before .before .before .before .before .before .if1 .left, c .before .before .before .before .before .before .before .before .before .body-at-front .ensures, c .before .before .before .test-key .ensures)
 
 returns-3 : tie.Need-returns-3
-returns-3 c = keeps-all (c .before .before .before .before .before .before .before .before .before .before .before .before .before .before .before .before .before .before .before .before .before .before .pre .1) (c .before .before .before .before .before .before .before .before .before .before .before .before .before .before .before .before .record-at .ensures) (c .before .before .before .before .before .before .before .before .before .before .before .before .before .before .before .before .before .before .before .before .before .before .pre .0) (c .before .before .before .before .before .before .before .before .before .before .first-broken .ensures .0) (c .before .before .before .before .before .before .before .before .before .if1 .left) (c .before .before .before .before .before .before .before .before .body-at-front .ensures) (c .before .before .test-key .ensures) (search)
+returns-3 c = keeps-all (c .before .before .before .before .before .before .before .before .before .before .before .before .before .before .before .before .before .before .before .before .before .before .before .pre .1) (c .before .before .before .before .before .before .before .before .before .before .before .before .before .before .before .before .before .record-at .ensures) (c .before .before .before .before .before .before .before .before .before .before .before .before .before .before .before .before .before .before .before .before .before .before .before .pre .0) (c .before .before .before .before .before .before .before .before .before .before .before .first-broken .ensures .0) (c .before .before .before .before .before .before .before .before .before .before .if1 .left) (c .before .before .before .before .before .before .before .before .before .body-at-front .ensures) (c .before .before .before .test-key .ensures) (search) (c .keeps-question .ensures)
 
 pub check-accepted-spec : {M : Type 1} → statement M
 check-accepted-spec =
@@ -58,5 +62,6 @@ check-accepted-spec =
     test-key-requires
     enum-known-tested
     enum-told
+    keeps-question-requires
     returns-2
     returns-3)

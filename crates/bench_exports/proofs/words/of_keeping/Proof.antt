@@ -1,4 +1,6 @@
 use borrow.Author.Needs.{needs}
+use mathlib.Core.Path.{sym, ap}
+use Rattle.bench_exports.specs.Words.{keepingWords}
 use Rattle.bench_exports.proofs.words.of_keeping.Statement.{statement}
 use Rattle.bench_exports.proofs.words.of_keeping.Tie as tie
 use Rattle.bench_exports.proofs.words.of_keeping.Reads as reads
@@ -17,7 +19,7 @@ returns : tie.Need-returns
 returns c = search needs
 
 returns-2 : tie.Need-returns-2
-returns-2 c = cc
+returns-2 c = ap keepingWords (sym (c .before .answer .given .1))
 
 returns-3 : tie.Need-returns-3
 returns-3 c = cc
