@@ -46,7 +46,8 @@ impl Operation {
     }
 }
 
-/// The case of the answer and its values, as crate bench_exports writes them: refusal number, input, record; or bytes used.
+/// The case of the answer and its values, as crate bench_exports writes them: refusal number, input, record; or bytes used; or of a witness
+/// context and targets.
 pub type Words = [usize; 4];
 
 /// Inputs stand in the operation's order; what an operation does not take is empty.

@@ -1,4 +1,4 @@
-//! The fixed inputs that the issues 4 to 7, 19 and 20 ask for, each with the answer that document 01 gives, written by hand.
+//! The fixed inputs that the issues 4 to 7, 19, 20 and 22 ask for, each with the answer that 01 and 02 give, written by hand.
 //!
 //! fixed_cases cases            the stream that the program `replay` reads (reference/stream.rs has the format)
 //! fixed_cases compare [CASE]   reads replay's answers on standard input and holds each to its expectation; CASE, counted from 1,
@@ -18,7 +18,7 @@ use reference::stream::{answer, write_case, Answer, OPERATIONS};
 use std::io::{Read, Write};
 
 /// The numbers of the issues are below this.
-const ISSUES: usize = 21;
+const ISSUES: usize = 23;
 
 /// Cases, differences and cases that no wrong expectation fails, by issue.
 #[derive(Default, Clone, Copy)]

@@ -1,6 +1,6 @@
 #!/bin/sh
 # fixed_cases.sh: holds the reference, then the program replay that `rt ci` built, to answers that were written by hand from document 01:
-# the inputs that the issues 4 to 7 and 19 ask for. A difference fails it, and so does `not here`. Wrong expectations and wrong lines of the
+# the inputs that the issues 4 to 7, 19, 20 and 22 ask for. A difference fails it, and so does `not here`. Wrong expectations and wrong lines of the
 # reference must be caught: a comparison that cannot fail shows nothing. All that is built or written lies in target/tests.
 set -eu
 root=$(CDPATH= cd -- "$(dirname -- "$0")/.." && pwd)

@@ -62,16 +62,16 @@ expect 2 "refused 1 2 0$line" decide "$bench/b.profile" "$work/no_such_file" "$w
 [ ! -e "$work/not_made" ] || fail "a refusal made OUT"
 
 # every answer's status
-expect 1 "broken$line" profile keep "$bench/b.profile" "$bench/b.question" "$work/out"
+expect 1 "broken 0 4 9 6 11$line" profile keep "$bench/b.profile" "$bench/b.question" "$work/out"
 expect 0 "kept$line" profile keep "$bench/b.profile" "$bench/a.question" "$work/out"
-expect 0 "accepted$line" checker tree "$bench/b.profile" "$bench/b.question" "$work/out"
-expect 2 "refused 12 1 0$line" checker tree "$bench/a.profile" "$bench/b.question" "$work/out"
+expect 0 "accepted 0 4 9 6 11$line" checker tree "$bench/b.profile" "$bench/b.question" "$work/out"
+expect 2 "refused 12 1 0 witness 0 4 9 6 11$line" checker tree "$bench/a.profile" "$bench/b.question" "$work/out"
 expect 2 "refused 13 3 0$line" checker tree "$bench/b.profile" "$bench/a.question" "$work/out"
 expect 2 "refused 10 3 8$line" checker proof "$bench/a.profile" "$bench/b.question" "$work/proof"
 expect 2 "refused 10 3 0$line" checker proof "$bench/a.profile" "$bench/a.question" "$work/no_such_file"
 # m in both editions: the tree of edition 1 has an attribute twice, the proof of edition 2 uses rule 10
 expect 1 "not implied 66$line" decide "$bench/m.profile" "$bench/m.question" "$work/m"
-expect 0 "accepted$line" checker tree "$bench/m.profile" "$bench/m.question" "$work/m"
+expect 0 "accepted 2 4 5 4 5$line" checker tree "$bench/m.profile" "$bench/m.question" "$work/m"
 expect 2 "refused 16 3 5$line" checker tree "$bench/m2.profile" "$bench/m2.question" "$work/m"
 expect 0 "implied 30$line" decide "$bench/m2.profile" "$bench/m2.question" "$work/m2"
 expect 0 "accepted$line" checker proof "$bench/m2.profile" "$bench/m2.question" "$work/m2"

@@ -45,7 +45,7 @@ fn examples(tally: &mut Tally) {
             }
             Ok(Decision::NotImplied(tree)) => {
                 tally.same(&name, false, *implied);
-                tally.same(&name, check_counterexample(&profile, &question, &tree), Ok(()));
+                tally.same(&name, check_counterexample(&profile, &question, &tree).is_ok(), true);
             }
             Err(refusal) => tally.same(&name, Some(refusal), None),
         }
@@ -58,6 +58,12 @@ fn examples(tally: &mut Tally) {
         tally.same("listing of b from kind 3", list(&profile, &narrow, 0, ROOM), Ok(LISTING_OF_B.as_bytes().to_vec()));
         tally.same("listing of b", list(&profile, &tree, 0, ROOM), Ok(LISTING_OF_B.as_bytes().to_vec()));
         tally.same("past the end", list(&profile, &tree, 1, ROOM), Ok(Vec::new()));
+        let two_frames = vec![0, 4, 9, 6, 11];
+        tally.same("the two frames of b", check_counterexample(&profile, &asked, &tree), Ok(two_frames.clone()));
+        tally.same("the two frames of b, by the tree test", keep(&profile, &asked, &tree), Ok(Some(two_frames.clone())));
+        let refusal = Refusal { number: 12, input: PROFILE, record: 0 };
+        let objection = Objection { refusal, witness: Some(two_frames) };
+        tally.same("the two frames of b, refused", check_counterexample(&bench_profile(ROWS[0].2), &asked, &tree), Err(objection));
     }
     tally.same("rule 8 alone proves c", proof_of_c_needs_rule_8(), true);
 }
@@ -179,8 +185,9 @@ fn readings(tally: &mut Tally) {
     tally.refused("empty tree", keep(&[], &hex(Q0), &[]), (8, 3, 0));
     tally.refused("empty proof", check_proof(&[], &hex(Q0), &[]), (10, 3, 0));
     tally.same("empty profile", rewritten(""), Ok(Vec::new()));
-    tally.same("root alone", keep(&[], &hex(Q0), &hex(ROOT_NODE)), Ok(true));
-    tally.refused("keeps the question", check_counterexample(&[], &hex(Q0), &hex(ROOT_NODE)), (13, 3, 0));
+    tally.same("root alone", keep(&[], &hex(Q0), &hex(ROOT_NODE)), Ok(None));
+    let kept = Refusal { number: 13, input: TREE_OR_PROOF, record: 0 };
+    tally.same("keeps the question", check_counterexample(&[], &hex(Q0), &hex(ROOT_NODE)), Err(kept.into()));
     tally.same("body 1", body(&all(&[LA, LB, Q0]), 1).to_vec(), hex("06 02 62"));
     tally.same("no body", body(&all(&[LA, LB, Q0]), 3).to_vec(), Vec::new());
     tally.same("body of a refused profile", body(&all(&[LA, LB, Q0, "00"]), 1).to_vec(), Vec::new());
@@ -282,7 +289,7 @@ fn chain_of(kind: u16, count: usize) -> Vec<u8> {
 fn big_inputs(tally: &mut Tally) {
     let labels = all(&[LA, LB]);
     let everywhere = key_record(&Key { context: vec![0], target: vec![0], paths: vec![vec![]] });
-    tally.same("4,096 nodes", keep(&labels, &everywhere, &chain(4_096)), Ok(true));
+    tally.same("4,096 nodes", keep(&labels, &everywhere, &chain(4_096)), Ok(None));
     tally.refused("4,097 nodes", keep(&labels, &everywhere, &chain(4_097)), (7, 3, 0));
     tally.refused("tree of full size", keep(&labels, &everywhere, &vec![9; TREE_BYTES]), (2, 3, 0));
     tally.refused("a byte more", keep(&labels, &everywhere, &vec![9; TREE_BYTES + 1]), (7, 3, 0));
@@ -300,9 +307,9 @@ fn big_inputs(tally: &mut Tally) {
         write_tree(&nodes, WIDE_NODE_KIND)
     };
     let attributes = key_record(&Key { context: vec![], target: vec![6], paths: vec![vec![]] });
-    tally.same("all different", keep(&labels, &attributes, &leaves(&|number| number)), Ok(true));
-    tally.same("last two equal", keep(&labels, &attributes, &leaves(&|number| number.min(4_094))), Ok(false));
-    tally.same("low bytes equal", keep(&labels, &attributes, &leaves(&|number| 65_536 * number)), Ok(true));
+    tally.same("all different", keep(&labels, &attributes, &leaves(&|number| number)), Ok(None));
+    tally.same("last two equal", keep(&labels, &attributes, &leaves(&|number| number.min(4_094))), Ok(Some(vec![0, 4_094, 4_095, 4_094, 4_095])));
+    tally.same("low bytes equal", keep(&labels, &attributes, &leaves(&|number| 65_536 * number)), Ok(None));
     let line = |rule, first, key: &[u8]| {
         line_record(&Line { rule, first, second: NONE, key: read_key(&key[4..]).unwrap() })
     };
@@ -325,7 +332,7 @@ fn wide_trees(tally: &mut Tally, labels: &[u8], question: &[u8]) {
     let of = |tree: &[u8]| keep(labels, question, tree);
     let full = chain_of(WIDE_NODE_KIND, 4_096);
     tally.same("bytes of 4,096 wide nodes", full.len(), WIDE_TREE_BYTES);
-    tally.same("4,096 wide nodes", of(&full), Ok(true));
+    tally.same("4,096 wide nodes", of(&full), Ok(None));
     tally.refused("a byte after 4,096 wide nodes", of(&[full, vec![11]].concat()), (7, 3, 0));
     tally.refused("4,097 wide nodes", of(&chain_of(WIDE_NODE_KIND, 4_097)), (7, 3, 0));
     let padded = |head: &[u8]| [head.to_vec(), vec![9; 40_000 - head.len()]].concat();

@@ -1,5 +1,5 @@
-//! Trees on which a careless tree test would take hours, each of 512 and of 4,096 nodes: the tests of keys on them must give 01's verdict and
-//! end. Times and their ratio are printed and held to nothing but a limit against hanging.
+//! Trees on which a careless tree test would take hours, each of 512 and of 4,096 nodes: the tests of keys on them must give 01's verdict,
+//! with the first witness where a key is broken, and end. Times and their ratio are printed and held to nothing but a limit against hanging.
 //!
 //! tree_cost RUN FOLDER    RUN is tests/run_program.sh; FOLDER takes the files
 //!
@@ -290,6 +290,9 @@ fn segment_keys() -> Vec<String> {
     keys
 }
 
+/// Context, the two targets and the pair of the one key path (02, request 9), by the number of nodes that the tree was asked to have.
+type Witness = fn(usize) -> [usize; 5];
+
 /// One tree tested against one key by `profile keep`, or against a whole profile and then the question by `checker tree`.
 struct Case {
     name: &'static str,
@@ -298,6 +301,7 @@ struct Case {
     question: &'static str,
     tree: fn(usize) -> Table,
     wanted: &'static str,
+    witness: Option<Witness>,
 }
 
 const EVERYWHERE: &str = "(_*,(_*,{e}))";
@@ -306,51 +310,61 @@ const EQUAL_AND_DIFFERENT: &str = "(_*,(_*,{@id,@seq}))";
 const LONG_PATHS: &str =
     "(_*,(_*,{@id,run.run.run.run.run.run.@id,run.run.run.run.run.run.run.@id,run.run.run.run.run.run.run.@seq}))";
 
-fn keep(name: &'static str, question: &'static str, tree: fn(usize) -> Table, wanted: &'static str) -> Case {
-    Case { name, edition: FIRST_EDITION, profile: Vec::new(), question, tree, wanted }
+fn kept(name: &'static str, question: &'static str, tree: fn(usize) -> Table) -> Case {
+    Case { name, edition: FIRST_EDITION, profile: Vec::new(), question, tree, wanted: "kept", witness: None }
+}
+
+fn broken(name: &'static str, question: &'static str, tree: fn(usize) -> Table, witness: Witness) -> Case {
+    Case { wanted: "broken", witness: Some(witness), ..kept(name, question, tree) }
+}
+
+/// Two equal runs below the root, the first of them node 1.
+fn of_runs(second: usize) -> [usize; 5] {
+    [0, 1, second, 1, second]
 }
 
 fn cases() -> Vec<Case> {
     let mut cases = vec![
         // One node has no other: what the start of a program takes.
-        keep("root alone", EVERYWHERE, |_| Table::new(), "kept"),
+        kept("root alone", EVERYWHERE, |_| Table::new()),
         // Frames of two ports agree, and no port reaches both; below one port @seq differs.
-        keep("segment, one key", "(port,(frame,{@seq}))", segment, "kept"),
+        kept("segment, one key", "(port,(frame,{@seq}))", segment),
         // No two elements of a chain have equally many nodes below them.
-        keep("chain, {e}", EVERYWHERE, chain, "kept"),
+        kept("chain, {e}", EVERYWHERE, chain),
         // Two teeth without anything below them are equal, and the root reaches both.
-        keep("comb of equal teeth, {e}", EVERYWHERE, |n| comb(n, PORT, false), "broken"),
+        broken("comb of equal teeth, {e}", EVERYWHERE, |n| comb(n, PORT, false), |_| [0, 2, 4, 2, 4]),
         // No two teeth are equal, and no two elements have equally many nodes below them.
-        keep("comb of different teeth, {e}", EVERYWHERE, |n| comb(n, SEQ, true), "kept"),
-        keep("star of equal leaves, {e}", EVERYWHERE, |n| star(n, PORT, false), "broken"),
-        keep("star of different leaves, {e}", EVERYWHERE, |n| star(n, SEQ, true), "kept"),
+        kept("comb of different teeth, {e}", EVERYWHERE, |n| comb(n, SEQ, true)),
+        broken("star of equal leaves, {e}", EVERYWHERE, |n| star(n, PORT, false), |_| [0, 1, 2, 1, 2]),
+        kept("star of different leaves, {e}", EVERYWHERE, |n| star(n, SEQ, true)),
         // All agree on @id and no two on @seq; the root and the attributes themselves have neither.
-        keep("chain, equal and different", EQUAL_AND_DIFFERENT, dressed_chain, "kept"),
-        keep("comb, equal and different", EQUAL_AND_DIFFERENT, dressed_comb, "kept"),
-        keep("star, equal and different", EQUAL_AND_DIFFERENT, dressed_star, "kept"),
-        keep("chain, long key paths", LONG_PATHS, dressed_chain, "kept"),
+        kept("chain, equal and different", EQUAL_AND_DIFFERENT, dressed_chain),
+        kept("comb, equal and different", EQUAL_AND_DIFFERENT, dressed_comb),
+        kept("star, equal and different", EQUAL_AND_DIFFERENT, dressed_star),
+        kept("chain, long key paths", LONG_PATHS, dressed_chain),
         // The two ports have no @seq in common.
-        keep("twins, equal and different", "(e,(port,{@id,@seq}))", twins, "kept"),
+        kept("twins, equal and different", "(e,(port,{@id,@seq}))", twins),
         // All ports are equal, and each has a frame of its own as its only context.
-        keep("broom, contexts apart", "(_*.run.frame,(_*.port,{e}))", broom, "kept"),
+        kept("broom, contexts apart", "(_*.run.frame,(_*.port,{e}))", broom),
         // No port is reached: no run of a target stands below a stamp.
-        keep("broom, no target", "(_*,(_*.stamp._*.port,{e}))", broom, "kept"),
+        kept("broom, no target", "(_*,(_*.stamp._*.port,{e}))", broom),
         // All frames agree, and each has a port of its own as its only context.
-        keep("ports of one frame, contexts apart", "(port,(frame,{@seq}))", ports_of_one, "kept"),
+        kept("ports of one frame, contexts apart", "(port,(frame,{@seq}))", ports_of_one),
         // No two frames have the same four digits: there are fewer than 6 * 6 * 6 * 6.
-        keep("grid, four key paths", "(e,(frame,{@id,@seq,stamp.@id,stamp.@seq}))", grid, "kept"),
+        kept("grid, four key paths", "(e,(frame,{@id,@seq,stamp.@id,stamp.@seq}))", grid),
         // Two frames that share an @id share no @seq, and the other way round.
-        keep("halves, equal and different", EQUAL_AND_DIFFERENT, shared_by_half, "kept"),
+        kept("halves, equal and different", EQUAL_AND_DIFFERENT, shared_by_half),
         // "Elements and text keep their order": no two chains have their texts in one order, and no two elements of a chain have equally
         // many nodes below them.
-        keep("chains of other orders, {e}", "(_*,(_*.run,{e}))", orders, "kept"),
-        // "some one-to-one pairing": the two elements with many attributes are equal, and so are the chains over them.
-        keep("twin chains over one fat element", "(e,(run,{e}))", fat_twin_chains, "broken"),
-        keep("two fat elements", "(e,(run,{e}))", fat_twins, "broken"),
+        kept("chains of other orders, {e}", "(_*,(_*.run,{e}))", orders),
+        // "some one-to-one pairing": the two elements with many attributes are equal, and so are the chains over them. The root reaches the two
+        // uppermost; the second stands behind all of the first's chain and attributes.
+        broken("twin chains over one fat element", "(e,(run,{e}))", fat_twin_chains, |n| of_runs(2 * ((n - 1) / 4) + 1)),
+        broken("two fat elements", "(e,(run,{e}))", fat_twins, |n| of_runs((n - 3) / 2 + 2)),
     ];
     // No two attributes have one value, so no two ports are equal.
-    cases.push(Case { edition: SECOND_EDITION, ..keep("attributes apart, edition 2", EVERYWHERE, attributes_apart, "kept") });
-    // The segment keeps all 64, and breaks the question: @seq 0 stands in two ports.
+    cases.push(Case { edition: SECOND_EDITION, ..kept("attributes apart, edition 2", EVERYWHERE, attributes_apart) });
+    // The segment keeps all 64, and breaks the question: @seq 0 stands in two ports, in each one's first frame.
     cases.push(Case {
         name: "segment, 64 keys",
         edition: FIRST_EDITION,
@@ -358,6 +372,7 @@ fn cases() -> Vec<Case> {
         question: "(e,(port.frame,{@seq}))",
         tree: segment,
         wanted: "accepted",
+        witness: Some(|_| [0, 3, PORT_NODES + 3, 5, PORT_NODES + 5]),
     });
     cases
 }
@@ -394,7 +409,9 @@ fn run(case: &Case, nodes: usize, program: &str, folder: &Path) -> f64 {
     let seconds = start.elapsed().as_secs_f64();
     let output = child.wait_with_output().expect("the program's answer can be read");
     let answer = String::from_utf8_lossy(&output.stdout).trim_end().to_string();
-    assert_eq!(answer, case.wanted, "{}, {} nodes", case.name, table.nodes.len());
+    let numbers = case.witness.map_or(Vec::new(), |witness| witness(nodes).to_vec());
+    let wanted = numbers.iter().fold(case.wanted.to_string(), |line, number| format!("{} {}", line, number));
+    assert_eq!(answer, wanted, "{}, {} nodes", case.name, table.nodes.len());
     seconds
 }
 

@@ -14,14 +14,16 @@ const DERIVED_LINES: usize = 6;
 const SMALL_TREE: usize = 14;
 /// So many of a profile's keys are tried by definition, which is slow.
 const KEYS_BY_DEFINITION: usize = 3;
+/// Of so many questions one tree at least has to break a key: witnesses that nobody finds are not compared.
+const QUESTIONS_TO_A_WITNESS: usize = 10;
 
 pub fn is_consistent(seed: u64, count: usize) -> bool {
     let mut random = Random::new(seed);
     let mut counts: BTreeMap<String, usize> = BTreeMap::new();
-    let mut failed = 0;
+    let (mut failed, mut witnesses) = (0, 0);
     for number in 0..count {
         let asked = asked(&mut random);
-        let found = trees_and_lines(&mut random, &asked).and_then(|_| decision(&mut random, &asked));
+        let found = trees_and_lines(&mut random, &asked, &mut witnesses).and_then(|_| decision(&mut random, &asked));
         if let Err(fault) = &found {
             failed += 1;
             println!("question {} of seed {}: {}", number, seed, fault);
@@ -29,13 +31,13 @@ pub fn is_consistent(seed: u64, count: usize) -> bool {
         *counts.entry(found.unwrap_or_else(|fault| fault)).or_insert(0) += 1;
     }
     let list: Vec<String> = counts.iter().map(|(name, count)| format!("{} {}", name, count)).collect();
-    println!("the reference itself: {} questions, {} fail: {}", count, failed, list.join(" · "));
-    failed == 0
+    println!("the reference itself: {} questions, {} fail: {} · {} first witnesses", count, failed, list.join(" · "), witnesses);
+    failed == 0 && witnesses >= count / QUESTIONS_TO_A_WITNESS
 }
 
-/// Rewriting changes nothing, a written tree is read, value equality by numbers and the fast tree test are
-/// the definitions, and no tree that keeps the profile breaks a line that follows.
-fn trees_and_lines(random: &mut Random, asked: &Asked) -> Result<(), String> {
+/// Rewriting changes nothing, a written tree is read, value equality by numbers, the fast tree test and the fast search for the first
+/// witness are the definitions, and no tree that keeps the profile breaks a line that follows. Counts the witnesses.
+fn trees_and_lines(random: &mut Random, asked: &Asked, witnesses: &mut usize) -> Result<(), String> {
     let profile = write_profile(&asked.profile);
     if rewrite(&profile, ANSWER_BYTES) != Ok(profile.clone()) {
         return Err("rewriting changes the profile".to_string());
@@ -51,10 +53,16 @@ fn trees_and_lines(random: &mut Random, asked: &Asked) -> Result<(), String> {
     if (0..nodes.len()).any(|x| (0..nodes.len()).any(|y| differs(x, y))) {
         return Err("value equality by numbers differs from the definition".to_string());
     }
-    for key in asked.profile.keys.iter().take(KEYS_BY_DEFINITION).chain(std::iter::once(&asked.question)) {
+    let near = key_on(random, &asked.world, &nodes);
+    for key in asked.profile.keys.iter().take(KEYS_BY_DEFINITION).chain([&asked.question, &near]) {
         if table.keeps(key) != table.keeps_by_definition(key) {
             return Err("the fast tree test differs from the definition".to_string());
         }
+        let witness = table.first_witness(key);
+        if witness != table.first_witness_by_definition(key) || witness.is_none() != table.keeps(key) {
+            return Err("the first witness differs from the definition".to_string());
+        }
+        *witnesses += witness.is_some() as usize;
     }
     let keeps_profile = asked.profile.keys.iter().all(|key| table.keeps(key));
     let lines = derivation(random, asked, DERIVED_LINES);
@@ -85,7 +93,7 @@ fn decision(random: &mut Random, asked: &Asked) -> Result<String, String> {
             Ok("implied".to_string())
         }
         Ok(Decision::NotImplied(tree)) => {
-            if check_counterexample(&profile, &question, &tree) != Ok(()) {
+            if check_counterexample(&profile, &question, &tree).is_err() {
                 return Err("the counterexample is refused".to_string());
             }
             if !is_refuted {

@@ -61,7 +61,16 @@ fn word(line: &str) -> Answer {
     Answer { line: line.to_string(), bytes: Vec::new() }
 }
 
-/// Reads `replay`'s answers to the check cases: it and the reference have to accept each piece of evidence.
+/// Whether an answer says `accepted`: a proof without more, a tree with the question's witness.
+fn says_accepted(case: &Case, answer: Option<&Answer>) -> bool {
+    let line = answer.map_or("", |answer| answer.line.as_str());
+    match case.operation {
+        CHECK_PROOF => line == "accepted",
+        _ => line.starts_with("accepted "),
+    }
+}
+
+/// Reads `replay`'s answers to the check cases: it and the reference have to accept each piece of evidence, with one witness.
 pub fn is_accepted(check_cases: EvidenceCases, found: &mut dyn BufRead, differences: &mut Differences) -> bool {
     let mut random = Random::new(check_cases.seed);
     let least = check_cases.least;
@@ -69,10 +78,13 @@ pub fn is_accepted(check_cases: EvidenceCases, found: &mut dyn BufRead, differen
     for (number, case) in check_cases.enumerate() {
         let answers = [read_answer(found), Some(answer(&case))];
         for (whose, each) in ["replay's checker", "the reference's checker"].iter().zip(&answers) {
-            if *each != Some(word("accepted")) {
+            if !says_accepted(&case, each.as_ref()) {
                 let title = format!("evidence {} is not accepted by {}", number, whose);
                 differences.add(&title, &case, &word("accepted"), each.as_ref());
             }
+        }
+        if answers[0] != answers[1] {
+            differences.add(&format!("evidence {} has two witnesses", number), &case, &answer(&case), answers[0].as_ref());
         }
         if case.operation == CHECK_TREE {
             seen.trees += 1;

@@ -100,7 +100,7 @@ fn counted_records(cases: &mut Cases) {
     }
     // 12 gives a key number: both runs have one @id, and no two ports stand there.
     let runs = tree("0 - 203 -/1 0 2 -/2 1 6 1/3 0 2 -/4 3 6 1");
-    let wanted = ["refused 12 1 1", "refused 12 1 1"];
+    let wanted = ["refused 12 1 1 witness 0 1 3 2 4", "refused 12 1 1 witness 0 1 3 2 4"];
     in_both(cases, "the lowest broken key", &two, |all| check_tree(all, &key(one), &runs), wanted);
 }
 

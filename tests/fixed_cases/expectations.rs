@@ -37,7 +37,8 @@ impl Cases {
         self.all.push(Fixed { issue: self.issue, name: name.to_string(), case, wanted });
     }
 
-    /// A case and the line that it wants: `refused 4 1 3`, `kept`, `implied`, `not implied 132`, ..
+    /// A case and the line that it wants: `refused 4 1 3`, `kept`, `implied`, `not implied 132`, .. `broken` and an accepted tree may stand
+    /// without their witness.
     pub fn put(&mut self, name: &str, case: Case, wanted: &str) {
         let bytes = wanted.strip_prefix("not implied ").map(|count| count.parse::<usize>().unwrap());
         let wanted = match (wanted, bytes) {
@@ -59,16 +60,26 @@ fn evidence(case: &Case, answer: &Answer) -> Result<(), String> {
     let checked = if answer.line.starts_with("implied ") {
         check_proof(profile, question, &answer.bytes)
     } else {
-        check_counterexample(profile, question, &answer.bytes)
+        check_counterexample(profile, question, &answer.bytes).map(|_| ()).map_err(|objection| objection.refusal)
     };
     checked.map_err(|refusal| format!("the evidence is refused: {:?}", refusal))
+}
+
+/// The line of an answer as far as a wanted line goes. Cases from before request 9 say `broken` or `accepted` alone, where the answer has
+/// the numbers of the witness behind that word: of these, and only of these, the first word is held to it.
+fn line_for<'a>(case: &Case, wanted: &str, found: &'a str) -> &'a str {
+    let is_before = matches!((case.operation, wanted), (KEEP, "broken") | (CHECK_TREE, "accepted"));
+    match found.split_once(' ') {
+        Some((word, _)) if is_before => word,
+        _ => found,
+    }
 }
 
 /// Whether an answer meets what is wanted, and if not, what is wrong with it.
 pub fn meets(case: &Case, wanted: &Wanted, found: &Answer) -> Result<(), String> {
     let differs = |wanted: &str| Err(format!("wanted `{}`, found `{}`", wanted, found.line));
     match wanted {
-        Wanted::Line(line) if found.line != *line => return differs(line),
+        Wanted::Line(line) if line_for(case, line, &found.line) != line => return differs(line),
         Wanted::Bytes(line, _) if found.line != *line => return differs(line),
         Wanted::Line(_) if !found.bytes.is_empty() => return Err(format!("{} bytes after `{}`", found.bytes.len(), found.line)),
         Wanted::Bytes(_, bytes) if found.bytes != *bytes => return Err(first_difference(bytes, &found.bytes)),

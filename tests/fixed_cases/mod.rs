@@ -18,19 +18,21 @@ mod profiles;
 mod proofs;
 mod rules;
 mod trees;
+mod witnesses;
 
 use expectations::{Cases, Fixed};
 
 /// All cases; each name is used once, so that a difference names its case.
 pub fn all() -> Vec<Fixed> {
     let mut found = Vec::new();
-    let issues: [(u8, &[fn(&mut Cases)]); 6] = [
+    let issues: [(u8, &[fn(&mut Cases)]); 7] = [
         (4, &[profiles::put, order::put, nodes::put, lines::put, bodies_and_paths::put, cuts::put]),
         (5, &[trees::put, listings::put]),
         (6, &[rules::put, proofs::put, counterexamples::put]),
         (7, &[decisions::put, chains::put]),
         (19, &[editions::put]),
         (20, &[doubled::put]),
+        (22, &[witnesses::put]),
     ];
     for (issue, parts) in issues.iter() {
         let mut cases = Cases::of(*issue);

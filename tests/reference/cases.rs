@@ -49,6 +49,7 @@ fn fixed_cases() -> Vec<Case> {
     proof_limits(&mut all);
     editions(&mut all);
     doubled_keys(&mut all);
+    many_witnesses(&mut all);
     all
 }
 
@@ -361,6 +362,44 @@ fn doubled_keys(all: &mut Vec<Case>) {
     }
 }
 
+const NUMBERINGS: usize = 40;
+
+/// A tree with many witnesses against each of the keys, numbered in many orders: elements 2 in each other, with two elements 4 each, and
+/// these with two attributes 3 of few values.
+fn many_witnesses(all: &mut Vec<Case>) {
+    let mut random = Random::new(NUMBERINGS as u64);
+    let mut nodes = vec![Node { parent: NONE, label: ROOT, value: 0 }];
+    for above in [0, 0, 1, 1] {
+        let element = nodes.len() as u16;
+        nodes.push(Node { parent: above, label: 2, value: 0 });
+        for values in [[1, 2], [2, 3]] {
+            let child = nodes.len() as u16;
+            nodes.push(Node { parent: element, label: 4, value: 0 });
+            nodes.extend(values.map(|value| Node { parent: child, label: 3, value }));
+        }
+    }
+    let any = || vec![ANY_PATH];
+    let keys = [
+        (vec![], vec![2], vec![vec![4, 3]]),
+        (vec![2], vec![4], vec![vec![3]]),
+        (any(), vec![2], vec![vec![4], vec![4, 3]]),
+        (any(), vec![ANY_PATH, 2], vec![vec![4, 3]]),
+        (any(), vec![ANY_PATH, 4], vec![vec![3]]),
+        (any(), any(), vec![vec![3], vec![]]),
+    ];
+    for (context, target, mut paths) in keys {
+        in_order(&mut paths);
+        let broken = key_record(&Key { context, target, paths });
+        let profile = [labels(3, 0), key_record(&key_of(1, 0, &[0])), broken.clone()].concat();
+        for _ in 0..NUMBERINGS {
+            let tree = write_tree(&woven(&mut random, &nodes), WIDE_NODE_KIND);
+            all.push(case(KEEP, &labels(3, 0), &broken, &tree));
+            all.push(case(CHECK_TREE, &labels(3, 0), &broken, &tree));
+            all.push(case(CHECK_TREE, &profile, &key_record(&key_of(0, 1, &[0])), &tree));
+        }
+    }
+}
+
 fn in_both_editions(all: &mut Vec<Case>, profile: &[u8]) {
     for front in [Vec::new(), edition_record(SECOND_EDITION)] {
         every_operation(all, &[&front, profile].concat());
@@ -438,11 +477,14 @@ fn include_case(random: &mut Random, asked: &Asked) -> Case {
     case(INCLUDE, &profile_of(asked), &p, &q)
 }
 
-/// Trees are small, now and then as large as they may be.
+/// Trees are small, now and then as large as they may be; of some the numbers do not go branch by branch.
 fn tree_case(random: &mut Random, asked: &Asked) -> Case {
     let size = if random.chance(1, 100) { 200 + random.below(TREE_NODES - 199) } else { 1 + random.below(40) };
     let kind = node_kind(random);
-    let nodes = tree(random, &asked.world, size, kind);
+    let mut nodes = tree(random, &asked.world, size, kind);
+    if random.chance(1, 3) {
+        nodes = woven(random, &nodes);
+    }
     let operation = if random.chance(2, 3) { KEEP } else { CHECK_TREE };
     let near = key_on(random, &asked.world, &nodes);
     let key = if random.chance(2, 3) { &near } else { &asked.question };
@@ -488,6 +530,9 @@ fn evidence_case(random: &mut Random, asked: &Asked) -> Case {
                 if nodes[at].label == nodes[from].label {
                     nodes[at].value = nodes[from].value;
                 }
+            }
+            if random.chance(1, 3) {
+                nodes = woven(random, &nodes);
             }
             let operation = if random.chance(4, 7) { CHECK_TREE } else { KEEP };
             case(operation, &profile, &question, &write_tree(&nodes, node_kind(random)))

@@ -333,6 +333,33 @@ fn any_tree(random: &mut Random, world: &World, size: usize, kind: u16) -> Vec<N
     nodes
 }
 
+/// The same tree, its nodes numbered in another order: still a parent before its children, and these in their order. So it keeps the
+/// same keys; which witness comes first is another matter.
+pub fn woven(random: &mut Random, nodes: &[Node]) -> Vec<Node> {
+    let mut children: Vec<Vec<usize>> = vec![Vec::new(); nodes.len()];
+    for number in (1..nodes.len()).rev() {
+        children[nodes[number].parent as usize].push(number);
+    }
+    let mut place = vec![0; nodes.len()];
+    let mut all = vec![nodes[0]];
+    // Nodes that are written and have children left, the next of which is last in its list.
+    let mut open: Vec<usize> = if children[0].is_empty() { Vec::new() } else { vec![0] };
+    while !open.is_empty() {
+        let at = random.below(open.len());
+        let parent = open[at];
+        let child = children[parent].pop().expect("an open node has a child left");
+        if children[parent].is_empty() {
+            open.swap_remove(at);
+        }
+        if !children[child].is_empty() {
+            open.push(child);
+        }
+        place[child] = all.len() as u16;
+        all.push(Node { parent: place[parent], ..nodes[child] });
+    }
+    all
+}
+
 /// Two elements next to each other that have the same attributes in two orders: of the first's, the first comes last.
 fn reordered_twins(random: &mut Random, world: &World, nodes: &mut Vec<Node>, kind: u16) {
     let parents: Vec<usize> = (0..nodes.len()).filter(|&node| !world.classes.is_last_only(nodes[node].label)).collect();

@@ -3,7 +3,7 @@
 //! so that a misunderstanding has to be made twice to stay unseen. Plain Rust, the standard library only.
 //!
 //! paths: words, joins, validity, inclusion · records: the inputs, checked from the front ·
-//! trees: value equality, keys kept · rules: proof lines · decide: pattern, verdict, evidence ·
+//! trees: value equality, keys kept · witness: why a key is broken · rules: proof lines · decide: pattern, verdict, evidence ·
 //! listing: blocks of lines · operations: the public operations with all refusals in 01's order ·
 //! generate, damage, derivations: random and damaged inputs · refute: trees against an implied question ·
 //! cases, stream: the cases of a run and their frames.
@@ -25,6 +25,7 @@ pub mod refute;
 pub mod rules;
 pub mod stream;
 pub mod trees;
+pub mod witness;
 
 use self::stream::*;
 use std::sync::atomic::{AtomicUsize, Ordering};
@@ -35,7 +36,7 @@ static WRONG: AtomicUsize = AtomicUsize::new(0);
 
 /// What each wrong line does, by its number less one, and the operations of whose answers in the
 /// stream of seed 1 it changes some.
-pub const WRONG_LINES: [(&[u8], &str); 19] = [
+pub const WRONG_LINES: [(&[u8], &str); 21] = [
     (&[INCLUDE, KEEP, CHECK_PROOF, CHECK_TREE, DECIDE], "membership: an any-path consumes at least one label"),
     (&[INCLUDE], "inclusion: 201 and 202 are left out of the labels"),
     (&[KEEP, CHECK_TREE], "value equality: attributes and other children are one list"),
@@ -55,6 +56,8 @@ pub const WRONG_LINES: [(&[u8], &str); 19] = [
     (&[KEEP, CHECK_TREE, LIST], "16 only for declared labels: 202 may be repeated"),
     (&[DECIDE], "pattern of edition 2: an attribute steps to its parent only if that is q"),
     (&[REWRITE, BODY, INCLUDE, KEEP, CHECK_PROOF, CHECK_TREE, DECIDE, LIST], "15 looks at the key before alone"),
+    (&[KEEP, CHECK_TREE], "witness: the nearest context"),
+    (&[KEEP, CHECK_TREE], "witness: pairs in the order of the way down"),
 ];
 
 pub fn choose_wrong_line(number: usize) {

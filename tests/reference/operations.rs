@@ -6,6 +6,7 @@ use super::paths::is_included;
 use super::records::*;
 use super::rules::follows;
 use super::trees::Tree;
+use super::witness::Witness;
 use super::wrong;
 
 /// The most nodes a written tree has (02, request 8): root, C, T and 4 key paths of 8 symbols, with u at q
@@ -47,11 +48,12 @@ pub fn include(profile: &[u8], p: &[u8], q: &[u8]) -> Result<bool, Refusal> {
     Ok(is_included(p, q, &profile.classes))
 }
 
-pub fn keep(profile: &[u8], question: &[u8], tree: &[u8]) -> Result<bool, Refusal> {
+/// The first witness where the tree breaks the key; none where it keeps it.
+pub fn keep(profile: &[u8], question: &[u8], tree: &[u8]) -> Result<Option<Witness>, Refusal> {
     let profile = read_profile(profile)?;
     let key = read_question(question, &profile.classes)?;
     let nodes = read_tree(tree, &profile)?;
-    Ok(Tree::new(&nodes, &profile.classes).keeps(&key))
+    Ok(Tree::new(&nodes, &profile.classes).first_witness(&key))
 }
 
 pub fn check_proof(profile: &[u8], question: &[u8], proof: &[u8]) -> Result<(), Refusal> {
@@ -65,19 +67,36 @@ pub fn check_proof(profile: &[u8], question: &[u8], proof: &[u8]) -> Result<(), 
     }
 }
 
-pub fn check_counterexample(profile: &[u8], question: &[u8], tree: &[u8]) -> Result<(), Refusal> {
+/// A refusal of the counterexample check: "12 carries it for the lowest broken key" (02, request 9), no other has a witness.
+#[derive(Clone, PartialEq, Eq, Debug)]
+pub struct Objection {
+    pub refusal: Refusal,
+    pub witness: Option<Witness>,
+}
+
+impl From<Refusal> for Objection {
+    fn from(refusal: Refusal) -> Objection {
+        Objection { refusal, witness: None }
+    }
+}
+
+/// Accepted with the question's first witness.
+pub fn check_counterexample(profile: &[u8], question: &[u8], tree: &[u8]) -> Result<Witness, Objection> {
     let profile = read_profile(profile)?;
     let key = read_question(question, &profile.classes)?;
     let nodes = read_tree(tree, &profile)?;
     let tree = Tree::new(&nodes, &profile.classes);
     let tried = if wrong(12) { 1.min(profile.keys.len()) } else { profile.keys.len() };
-    if let Some(broken) = (0..tried).find(|&number| !tree.keeps(&profile.keys[number])) {
-        return refuse(12, PROFILE, broken);
+    for (number, key) in profile.keys[..tried].iter().enumerate() {
+        if let Some(witness) = tree.first_witness(key) {
+            let refusal = Refusal { number: 12, input: PROFILE, record: number as u32 };
+            return Err(Objection { refusal, witness: Some(witness) });
+        }
     }
-    if tree.keeps(&key) {
-        return refuse(13, TREE_OR_PROOF, 0);
+    match tree.first_witness(&key) {
+        Some(witness) => Ok(witness),
+        None => Err(Refusal { number: 13, input: TREE_OR_PROOF, record: 0 }.into()),
     }
-    Ok(())
 }
 
 pub fn decide(profile: &[u8], question: &[u8], answer: usize) -> Result<Decision, Refusal> {

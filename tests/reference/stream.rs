@@ -4,10 +4,11 @@
 //! a listing), room (size of the answer buffer that is lent), three lengths; then the three inputs:
 //! profile; question or first path; tree, proof or second path.
 //!
-//! An answer: a line, the same that the programs print (`refused N I R`, `implied BYTES`, `kept`, ..),
+//! An answer: a line, the same that the programs print (`refused N I R`, `implied BYTES`, `kept`, `broken Q A B X Y ..`, ..),
 //! with `body BYTES` and `listed BYTES` besides; where it ends in BYTES, so many raw bytes follow.
 use super::operations::*;
 use super::records::Refusal;
+use super::witness::Witness;
 use std::io::{BufRead, Read, Write};
 
 pub const REWRITE: u8 = 1;
@@ -82,10 +83,21 @@ fn with_bytes(word: &str, bytes: Vec<u8>) -> Answer {
     Answer { line: format!("{} {}", word, bytes.len()), bytes }
 }
 
-fn answered(outcome: Result<Answer, Refusal>) -> Answer {
+/// The words, and behind them the numbers of a witness (02, request 9).
+fn with_witness(words: &str, witness: &Witness) -> Answer {
+    let numbers: Vec<String> = witness.iter().map(|number| number.to_string()).collect();
+    word(&format!("{} {}", words, numbers.join(" ")))
+}
+
+fn refused(refusal: Refusal) -> Answer {
+    word(&format!("refused {} {} {}", refusal.number, refusal.input, refusal.record))
+}
+
+fn countered(outcome: Result<Witness, Objection>) -> Answer {
     match outcome {
-        Ok(answer) => answer,
-        Err(refusal) => word(&format!("refused {} {} {}", refusal.number, refusal.input, refusal.record)),
+        Ok(witness) => with_witness("accepted", &witness),
+        Err(Objection { refusal, witness: None }) => refused(refusal),
+        Err(Objection { refusal, witness: Some(witness) }) => with_witness(&format!("{} witness", refused(refusal).line), &witness),
     }
 }
 
@@ -94,19 +106,20 @@ pub fn answer(case: &Case) -> Answer {
     let [a, b, c] = &case.inputs;
     let (number, room) = (case.number, case.room as usize);
     let either = |found: bool, yes: &str, no: &str| word(if found { yes } else { no });
-    answered(match case.operation {
+    match case.operation {
         REWRITE => rewrite(a, room).map(|bytes| with_bytes("rewritten", bytes)),
         BODY => Ok(with_bytes("body", body(a, number as usize).to_vec())),
         INCLUDE => include(a, b, c).map(|found| either(found, "included", "not included")),
-        KEEP => keep(a, b, c).map(|found| either(found, "kept", "broken")),
+        KEEP => keep(a, b, c).map(|broken| broken.map_or(word("kept"), |witness| with_witness("broken", &witness))),
         CHECK_PROOF => check_proof(a, b, c).map(|_| word("accepted")),
-        CHECK_TREE => check_counterexample(a, b, c).map(|_| word("accepted")),
+        CHECK_TREE => Ok(countered(check_counterexample(a, b, c))),
         LIST => list(a, c, number as u64, room).map(|bytes| with_bytes("listed", bytes)),
         _ => decide(a, b, room).map(|decision| match decision {
             Decision::Implied(proof) => with_bytes("implied", proof),
             Decision::NotImplied(tree) => with_bytes("not implied", tree),
         }),
-    })
+    }
+    .unwrap_or_else(refused)
 }
 
 /// Whether an answer is right. Which accepted proof is written is open (01): of `implied` the proof is

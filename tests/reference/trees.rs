@@ -3,6 +3,7 @@ use super::paths::{is_whole, is_word, places_after, places_at_start, Class, Clas
 use super::records::{Key, Node, NONE};
 use super::wrong;
 use std::collections::HashMap;
+use std::rc::Rc;
 
 pub struct Tree<'a> {
     pub nodes: &'a [Node],
@@ -37,20 +38,26 @@ impl<'a> Tree<'a> {
 
     /// The nodes reached from v by a path, in table order.
     pub fn reached(&self, v: usize, path: &[u8]) -> Vec<usize> {
+        let mut found = self.reached_on_the_way_down(v, path);
+        found.sort_unstable();
+        found
+    }
+
+    /// The same in the order of the way down: a node, what lies below its first child, what lies below the next.
+    pub fn reached_on_the_way_down(&self, v: usize, path: &[u8]) -> Vec<usize> {
         let mut found = Vec::new();
         let mut waiting = vec![(v, places_at_start(path))];
         while let Some((node, places)) = waiting.pop() {
             if is_whole(path, places) {
                 found.push(node);
             }
-            for &child in &self.children[node] {
+            for &child in self.children[node].iter().rev() {
                 let next = places_after(path, places, self.nodes[child].label);
                 if next != 0 {
                     waiting.push((child, next));
                 }
             }
         }
-        found.sort_unstable();
         found
     }
 
@@ -64,6 +71,11 @@ impl<'a> Tree<'a> {
         }
         labels.reverse();
         Some(labels)
+    }
+
+    /// Whether a path reaches w from v, by 01's sentence.
+    pub fn is_reached(&self, v: usize, w: usize, path: &[u8]) -> bool {
+        self.run(v, w).map_or(false, |run| is_word(&run, path))
     }
 
     /// Value equality by 01's sentence, with no memory; attributes by 02's "some one-to-one pairing". For small trees.
@@ -102,17 +114,16 @@ impl<'a> Tree<'a> {
     /// Whether the tree keeps a key, by 01's sentence. For small trees.
     pub fn keeps_by_definition(&self, key: &Key) -> bool {
         let all = 0..self.nodes.len();
-        let is_reached = |v: usize, w: usize, path: &[u8]| self.run(v, w).map_or(false, |run| is_word(&run, path));
         let agree = |a: usize, b: usize, path: &[u8]| {
             all.clone().any(|x| {
-                is_reached(a, x, path)
-                    && all.clone().any(|y| is_reached(b, y, path) && self.is_equal_by_definition(x, y))
+                self.is_reached(a, x, path)
+                    && all.clone().any(|y| self.is_reached(b, y, path) && self.is_equal_by_definition(x, y))
             })
         };
-        all.clone().filter(|&q| is_reached(0, q, &key.context)).all(|q| {
-            all.clone().filter(|&a| is_reached(q, a, &key.target)).all(|a| {
+        all.clone().filter(|&q| self.is_reached(0, q, &key.context)).all(|q| {
+            all.clone().filter(|&a| self.is_reached(q, a, &key.target)).all(|a| {
                 all.clone()
-                    .filter(|&b| b != a && is_reached(q, b, &key.target))
+                    .filter(|&b| b != a && self.is_reached(q, b, &key.target))
                     .all(|b| key.paths.iter().any(|path| !agree(a, b, path)))
             })
         })
@@ -121,37 +132,36 @@ impl<'a> Tree<'a> {
     /// Whether the tree keeps a key. Whether two nodes agree on every key path does not depend on
     /// the context, and few nodes do: so pairs that agree come first, then their contexts.
     pub fn keeps(&self, key: &Key) -> bool {
+        let breaks = |one: &Target, other: &Target| one.agrees(other) && one.first_context_with(other).is_some();
+        self.alike(key).iter().all(|alike| {
+            alike.iter().enumerate().all(|(at, one)| !alike[..at].iter().any(|other| breaks(one, other)))
+        })
+    }
+
+    /// The key's targets that reach something by every key path, in lists of those that share a value on the first; each list ascends.
+    pub fn alike(&self, key: &Key) -> Vec<Vec<Rc<Target>>> {
         let contexts = self.marks(&[0], &key.context);
         let starts: Vec<usize> = (0..self.nodes.len()).filter(|&v| contexts[v]).collect();
-        let targets = self.marks(&starts, &key.target);
-        let mut worths_of: HashMap<usize, Vec<Vec<usize>>> = HashMap::new();
+        let is_target = self.marks(&starts, &key.target);
+        let mut values_of: HashMap<usize, Vec<Vec<usize>>> = HashMap::new();
         let mut by_first: HashMap<usize, Vec<usize>> = HashMap::new();
-        for a in (0..self.nodes.len()).filter(|&a| targets[a]) {
-            let worths: Vec<Vec<usize>> = key.paths.iter().map(|path| self.worths_reached(a, path)).collect();
-            if worths.iter().any(|each| each.is_empty()) && !wrong(4) {
+        for a in (0..self.nodes.len()).filter(|&a| is_target[a]) {
+            let values: Vec<Vec<usize>> = key.paths.iter().map(|path| self.worths_reached(a, path)).collect();
+            if values.iter().any(|each| each.is_empty()) && !wrong(4) {
                 continue;
             }
-            for &worth in &worths[0] {
+            for &worth in &values[0] {
                 by_first.entry(worth).or_insert_with(Vec::new).push(a);
             }
-            worths_of.insert(a, worths);
+            values_of.insert(a, values);
         }
-        let mut contexts_of: HashMap<usize, Vec<usize>> = HashMap::new();
-        for alike in by_first.values().filter(|alike| alike.len() > 1) {
-            for &a in alike {
-                contexts_of.entry(a).or_insert_with(|| self.contexts_of(a, &contexts, &key.target));
-            }
-            for (i, &a) in alike.iter().enumerate() {
-                for &b in &alike[..i] {
-                    let (of_a, of_b) = (&worths_of[&a], &worths_of[&b]);
-                    let agree = (1..key.paths.len()).all(|p| meet(&of_a[p], &of_b[p])) || wrong(4);
-                    if agree && meet(&contexts_of[&a], &contexts_of[&b]) {
-                        return false;
-                    }
-                }
-            }
-        }
-        true
+        // A target has several values, so it may stand in several lists.
+        let mut known: HashMap<usize, Rc<Target>> = HashMap::new();
+        let mut target = |a: &usize| {
+            let make = || Rc::new(Target { node: *a, values: values_of[a].clone(), contexts: self.contexts_of(*a, &contexts, &key.target) });
+            known.entry(*a).or_insert_with(make).clone()
+        };
+        by_first.values().filter(|alike| alike.len() > 1).map(|alike| alike.iter().map(&mut target).collect()).collect()
     }
 
     /// Which nodes a path reaches from some of the given nodes: once through the table.
@@ -198,12 +208,31 @@ impl<'a> Tree<'a> {
     }
 }
 
-/// Whether two ascending lists have a number in common.
-fn meet(xs: &[usize], ys: &[usize]) -> bool {
+/// A target of a key: the numbers of the values that each key path reaches from it, and the contexts that reach it; all ascend.
+pub struct Target {
+    pub node: usize,
+    pub values: Vec<Vec<usize>>,
+    pub contexts: Vec<usize>,
+}
+
+impl Target {
+    /// Whether both have a value in common on each key path; they are known to on the first.
+    pub fn agrees(&self, other: &Target) -> bool {
+        (1..self.values.len()).all(|path| first_common(&self.values[path], &other.values[path]).is_some()) || wrong(4)
+    }
+
+    /// The first context that reaches both.
+    pub fn first_context_with(&self, other: &Target) -> Option<usize> {
+        first_common(&self.contexts, &other.contexts)
+    }
+}
+
+/// The first number that two ascending lists have in common.
+fn first_common(xs: &[usize], ys: &[usize]) -> Option<usize> {
     let (mut i, mut j) = (0, 0);
     while i < xs.len() && j < ys.len() {
         if xs[i] == ys[j] {
-            return true;
+            return Some(xs[i]);
         }
         if xs[i] < ys[j] {
             i += 1;
@@ -211,7 +240,7 @@ fn meet(xs: &[usize], ys: &[usize]) -> bool {
             j += 1;
         }
     }
-    false
+    None
 }
 
 /// Gives value-equal nodes the same number and others different ones. Children stand after their

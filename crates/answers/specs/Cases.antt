@@ -1,8 +1,9 @@
 -- "Where an answer is an enum, a definition gives this paper's number and values for each case of the enum. The promises use that definition."
-use Prim.Native.Nat.{ℕ}
-use mathlib.Core.List.{List, []}
+use Prim.Native.Nat.{ℕ, _*_}
+use mathlib.Core.List.{List, [], _∷_}
+use lib.ListN.{take}
 use Rattle.meaning.specs.Refusals as Table
-use Rattle.meaning.specs.Operations.{Answer, Verdict, refusedBy, plain, rewritten, included, notIncluded, kept, broken, accepted, listed, implied, notImplied}
+use Rattle.meaning.specs.Operations.{Answer, Verdict, refusedBy, plain, shown, brokenBy, rewritten, included, notIncluded, kept, broken, accepted, listed, implied, notImplied}
 use Rattle.judged.specs.declared.Judged.{Judged}
 use Rattle.judged.specs.declared.Judged.the-variants as J
 use Rattle.answers.specs.declared.Refusal.{Refusal}
@@ -12,10 +13,13 @@ use Rattle.answers.specs.declared.Rewriting.{Rewriting}
 use Rattle.answers.specs.declared.Rewriting.the-variants as R
 use Rattle.answers.specs.declared.Inclusion.{Inclusion}
 use Rattle.answers.specs.declared.Inclusion.the-variants as I
+use Rattle.answers.specs.declared.Witness.{Witness}
 use Rattle.answers.specs.declared.Keeping.{Keeping}
 use Rattle.answers.specs.declared.Keeping.the-variants as K
 use Rattle.answers.specs.declared.Checking.{Checking}
 use Rattle.answers.specs.declared.Checking.the-variants as C
+use Rattle.answers.specs.declared.Countering.{Countering}
+use Rattle.answers.specs.declared.Countering.the-variants as N
 use Rattle.answers.specs.declared.Listing.{Listing}
 use Rattle.answers.specs.declared.Listing.the-variants as L
 use Rattle.answers.specs.declared.Deciding.{Deciding}
@@ -32,7 +36,7 @@ outcomeOf input (J.Refused number place) = O.Refused (record { number = number; 
 
 -- so many bytes used, and the buffer as it is at the end
 abbrev pub usedOf : Verdict → ℕ → List ℕ → Answer
-usedOf v used buffer = record { verdict = v; number = 0; input = 0; place = 0; used = used; buffer = buffer }
+usedOf v used buffer = record { verdict = v; number = 0; input = 0; place = 0; used = used; buffer = buffer; witness = [] }
 
 abbrev pub rewritingAnswer : Rewriting → List ℕ → Answer
 rewritingAnswer (R.Rewritten used) buffer = usedOf rewritten used buffer
@@ -43,14 +47,25 @@ inclusionAnswer I.Included = plain included
 inclusionAnswer I.NotIncluded = plain notIncluded
 inclusionAnswer (I.Refused r) = refusedBy (meant r) []
 
+-- the numbers of a witness: context, smaller target, larger, and a pair for each key path
+abbrev pub numbersOf : Witness → List ℕ
+numbersOf w =
+    w .context ∷ w .first ∷ w .second
+    ∷ take (2 * w .paths) (w .x0 ∷ w .y0 ∷ w .x1 ∷ w .y1 ∷ w .x2 ∷ w .y2 ∷ w .x3 ∷ w .y3 ∷ [])
+
 abbrev pub keepingAnswer : Keeping → Answer
 keepingAnswer K.Kept = plain kept
-keepingAnswer K.Broken = plain broken
+keepingAnswer (K.Broken w) = shown broken (numbersOf w)
 keepingAnswer (K.Refused r) = refusedBy (meant r) []
 
 abbrev pub checkingAnswer : Checking → Answer
 checkingAnswer C.Accepted = plain accepted
 checkingAnswer (C.Refused r) = refusedBy (meant r) []
+
+abbrev pub counteringAnswer : Countering → Answer
+counteringAnswer (N.Accepted w) = shown accepted (numbersOf w)
+counteringAnswer (N.Breaks n w) = brokenBy n (numbersOf w)
+counteringAnswer (N.Refused r) = refusedBy (meant r) []
 
 abbrev pub listingAnswer : Listing → List ℕ → Answer
 listingAnswer (L.Listed used) buffer = usedOf listed used buffer

@@ -32,16 +32,40 @@ pub enum Inclusion {
     Refused(Refusal),
 }
 
-// "test whether a tree keeps a key".
+// "the context node, the two target nodes, and for each key path one value-equal pair" (02, request 9): the smaller target first, and of a pair
+// the node below it. So many pairs as there are key paths, in their order; what stands behind them is 0.
+pub struct Witness {
+    pub context: usize,
+    pub first: usize,
+    pub second: usize,
+    pub paths: usize,
+    pub x0: usize,
+    pub y0: usize,
+    pub x1: usize,
+    pub y1: usize,
+    pub x2: usize,
+    pub y2: usize,
+    pub x3: usize,
+    pub y3: usize,
+}
+
+// "test whether a tree keeps a key": broken with the first witness.
 pub enum Keeping {
     Kept,
-    Broken,
+    Broken(Witness),
     Refused(Refusal),
 }
 
-// "check a proof; check a counterexample".
+// "check a proof".
 pub enum Checking {
     Accepted,
+    Refused(Refusal),
+}
+
+// "check a counterexample": accepted with the question's first witness; refusal 12 with the number of the lowest broken key and its first witness.
+pub enum Countering {
+    Accepted(Witness),
+    Breaks(usize, Witness),
     Refused(Refusal),
 }
 

@@ -3,14 +3,15 @@ use Prim.Native.Nat.{ℕ}
 use mathlib.Core.Path.{_≡_}
 use mathlib.Core.List.{List}
 use Rattle.meaning.specs.Operations.{Rewrites, Includes, TestsTree, ChecksProof, ChecksCounterexample, Lists, Decides}
-use Rattle.answers.specs.Cases.{rewritingAnswer, inclusionAnswer, keepingAnswer, checkingAnswer, listingAnswer, decidingAnswer}
+use Rattle.answers.specs.Cases.{rewritingAnswer, inclusionAnswer, keepingAnswer, checkingAnswer, counteringAnswer, listingAnswer, decidingAnswer}
 use Rattle.answers.specs.declared.Rewriting.{Rewriting}
 use Rattle.answers.specs.declared.Inclusion.{Inclusion}
 use Rattle.answers.specs.declared.Keeping.{Keeping}
 use Rattle.answers.specs.declared.Checking.{Checking}
+use Rattle.answers.specs.declared.Countering.{Countering}
 use Rattle.answers.specs.declared.Listing.{Listing}
 use Rattle.answers.specs.declared.Deciding.{Deciding}
-use Rattle.bench_exports.specs.Words.{rewritingWords, inclusionWords, keepingWords, checkingWords, listingWords, decidingWords}
+use Rattle.bench_exports.specs.Words.{rewritingWords, inclusionWords, keepingWords, checkingWords, counteringWords, listingWords, decidingWords}
 
 pub record ToldRewriting (profile : List ℕ) (before : List ℕ) (after : List ℕ) (told : List ℕ) : Type 0 where
   pub answer : Rewriting
@@ -33,9 +34,9 @@ pub record ToldProof (profile : List ℕ) (question : List ℕ) (proof : List �
   pub met : ChecksProof profile question proof (checkingAnswer answer)
 
 pub record ToldCounterexample (profile : List ℕ) (question : List ℕ) (tree : List ℕ) (told : List ℕ) : Type 0 where
-  pub answer : Checking
-  pub words : told ≡ checkingWords answer
-  pub met : ChecksCounterexample profile question tree (checkingAnswer answer)
+  pub answer : Countering
+  pub words : told ≡ counteringWords answer
+  pub met : ChecksCounterexample profile question tree (counteringAnswer answer)
 
 pub record ToldListing (profile : List ℕ) (tree : List ℕ) (block : ℕ) (before : List ℕ) (after : List ℕ) (told : List ℕ) : Type 0 where
   pub answer : Listing

@@ -6,10 +6,13 @@ use Rattle.answers.specs.declared.Rewriting.{Rewriting}
 use Rattle.answers.specs.declared.Rewriting.the-variants as R
 use Rattle.answers.specs.declared.Inclusion.{Inclusion}
 use Rattle.answers.specs.declared.Inclusion.the-variants as I
+use Rattle.answers.specs.declared.Witness.{Witness}
 use Rattle.answers.specs.declared.Keeping.{Keeping}
 use Rattle.answers.specs.declared.Keeping.the-variants as K
 use Rattle.answers.specs.declared.Checking.{Checking}
 use Rattle.answers.specs.declared.Checking.the-variants as C
+use Rattle.answers.specs.declared.Countering.{Countering}
+use Rattle.answers.specs.declared.Countering.the-variants as N
 use Rattle.answers.specs.declared.Listing.{Listing}
 use Rattle.answers.specs.declared.Listing.the-variants as L
 use Rattle.answers.specs.declared.Deciding.{Deciding}
@@ -20,6 +23,10 @@ refusalWords r = 0 ∷ r .number ∷ r .input ∷ r .place ∷ []
 
 abbrev pub caseWords : ℕ → ℕ → List ℕ
 caseWords which used = which ∷ used ∷ 0 ∷ 0 ∷ []
+
+-- of a witness the context and the targets
+abbrev pub witnessWords : ℕ → Witness → List ℕ
+witnessWords which w = which ∷ w .context ∷ w .first ∷ w .second ∷ []
 
 abbrev pub rewritingWords : Rewriting → List ℕ
 rewritingWords (R.Rewritten used) = caseWords 1 used
@@ -32,12 +39,17 @@ inclusionWords (I.Refused r) = refusalWords r
 
 abbrev pub keepingWords : Keeping → List ℕ
 keepingWords K.Kept = caseWords 1 0
-keepingWords K.Broken = caseWords 2 0
+keepingWords (K.Broken w) = witnessWords 2 w
 keepingWords (K.Refused r) = refusalWords r
 
 abbrev pub checkingWords : Checking → List ℕ
 checkingWords C.Accepted = caseWords 1 0
 checkingWords (C.Refused r) = refusalWords r
+
+abbrev pub counteringWords : Countering → List ℕ
+counteringWords (N.Accepted w) = witnessWords 1 w
+counteringWords (N.Breaks n w) = 0 ∷ 12 ∷ 1 ∷ n ∷ []
+counteringWords (N.Refused r) = refusalWords r
 
 abbrev pub listingWords : Listing → List ℕ
 listingWords (L.Listed used) = caseWords 1 used

@@ -3,6 +3,7 @@
 mod words;
 
 use crate::words::of_checking;
+use crate::words::of_countering;
 use crate::words::of_deciding;
 use crate::words::of_inclusion;
 use crate::words::of_keeping;
@@ -68,7 +69,7 @@ pub extern "C" fn bench_check_counterexample(
     ensures { λ _. ⌜ ToldCounterexample (now (profile .entry)) (now (question .entry)) (now (tree .entry)) (now (told .exit)) ⌝ }
 {
     let found = check_counterexample(profile, question, tree);
-    let words = of_checking(found);
+    let words = of_countering(found);
     *told = words;
 }
 

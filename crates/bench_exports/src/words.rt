@@ -1,18 +1,24 @@
 // An answer as four numbers: which case it is, and its values in their order, 0 where there is none.
 use answers::Checking;
+use answers::Countering;
 use answers::Deciding;
 use answers::Inclusion;
 use answers::Keeping;
 use answers::Listing;
 use answers::Rewriting;
 ghost use mathlib.Core.Path.{_≡_};
-ghost use Rattle.bench_exports.specs.Words.{rewritingWords, inclusionWords, keepingWords, checkingWords, listingWords, decidingWords};
+ghost use Rattle.bench_exports.specs.Words.{rewritingWords, inclusionWords, keepingWords, checkingWords, counteringWords, listingWords, decidingWords};
 
 const REFUSED: usize = 0;
 
 const FIRST_CASE: usize = 1;
 
 const SECOND_CASE: usize = 2;
+
+// Refusal 12, of the profile.
+const BREAKS_A_KEY: usize = 12;
+
+const PROFILE: usize = 1;
 
 pub fn of_rewriting(answer: Rewriting) -> [usize; 4]
     ensures { λ r. ⌜ r ≡ rewritingWords answer ⌝ }
@@ -38,7 +44,7 @@ pub fn of_keeping(answer: Keeping) -> [usize; 4]
 {
     match answer {
         Keeping::Kept => [FIRST_CASE, 0, 0, 0],
-        Keeping::Broken => [SECOND_CASE, 0, 0, 0],
+        Keeping::Broken(witness) => [SECOND_CASE, witness.context, witness.first, witness.second],
         Keeping::Refused(refusal) => [REFUSED, refusal.number, refusal.input, refusal.place],
     }
 }
@@ -49,6 +55,21 @@ pub fn of_checking(answer: Checking) -> [usize; 4]
     match answer {
         Checking::Accepted => [FIRST_CASE, 0, 0, 0],
         Checking::Refused(refusal) => [REFUSED, refusal.number, refusal.input, refusal.place],
+    }
+}
+
+pub fn of_countering(answer: Countering) -> [usize; 4]
+    ensures { λ r. ⌜ r ≡ counteringWords answer ⌝ }
+{
+    match answer {
+        Countering::Accepted(witness) => [
+            FIRST_CASE,
+            witness.context,
+            witness.first,
+            witness.second,
+        ],
+        Countering::Breaks(key, witness) => [REFUSED, BREAKS_A_KEY, PROFILE, key],
+        Countering::Refused(refusal) => [REFUSED, refusal.number, refusal.input, refusal.place],
     }
 }
 

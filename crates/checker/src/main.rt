@@ -1,5 +1,6 @@
-// `checker proof PROFILE QUESTION PROOF` and `checker tree PROFILE QUESTION TREE`: print `accepted`, or `refused` with number, input and record. What
-// is decided stands in `proof_checks` and `tree_checks`; an unreadable file counts as empty. No decider is reached.
+// `checker proof PROFILE QUESTION PROOF` and `checker tree PROFILE QUESTION TREE`: print `accepted`, or `refused` with number, input and record; of a
+// tree, with the witness where a key is broken. What is decided stands in `proof_checks` and `tree_checks`; an unreadable file counts as empty. No
+// decider is reached.
 use answers::Checking;
 use files::is_word;
 use files::print;
@@ -7,6 +8,7 @@ use files::print_refusal;
 use files::read_argument;
 use proof_checks::check_proof;
 use tree_checks::check_counterexample;
+use witness_lines::print_countering;
 
 // Of a file is read one byte more than its limit, so that it is refused by size; of a question two records of the greatest length and a byte.
 const PROFILE_READ: usize = 16385;
@@ -44,7 +46,7 @@ fn tree() {
     let n = read_argument(2, &mut profile);
     let m = read_argument(3, &mut question);
     let k = read_argument(4, &mut nodes);
-    print_checking(check_counterexample(&profile[..n], &question[..m], &nodes[..k]));
+    print_countering(check_counterexample(&profile[..n], &question[..m], &nodes[..k]));
 }
 
 fn usage() {

@@ -136,7 +136,7 @@ module _ {profile : List ℕ} {second : Bool} {labels keys : ℕ} {question clas
 
       pub decides-tree : {before after : List ℕ} {used : ℕ} → 65536 ≤ length before
           → TreeWritten (classBy classes) (keyIn body) (found .u) before after used
-          → Decides profile question before (record { verdict = notImplied; number = 0; input = 0; place = 0; used = used; buffer = after })
+          → Decides profile question before (usedOf notImplied used after)
       unfolding filled questionIn
       decides-tree {before} {after} {used} room wrote =
           let w =
@@ -170,7 +170,7 @@ module _ {profile : List ℕ} {second : Bool} {labels keys : ℕ} {question clas
 
     pub decides-proof : Ends (singleIn profile) (questionIn question) (found .u) → {before after : List ℕ} {used : ℕ} → 65536 ≤ length before
         → WroteLines before after 0 (proofBy profile labels (keyIn body) (found .u) (stepsBelow (found .steps) (found .count))) used
-        → Decides profile question before (record { verdict = implied; number = 0; input = 0; place = 0; used = used; buffer = after })
+        → Decides profile question before (usedOf implied used after)
     unfolding filled questionIn proofBytesOf
     decides-proof reached {before} {after} {used} room wrote =
         let w = proof-bytes-are remembers wrote in

@@ -16,7 +16,7 @@ use Rattle.theory_trees.specs.Reach.{reached-inside, reached-down}
 use Rattle.tree_rows.specs.Classed.{Classed}
 use Rattle.tree_rows.specs.Hung.{Hung}
 use Rattle.key_pairs.specs.Pairs.{each-one}
-use Rattle.key_groups.specs.Agreeing.{Agreeing}
+use Rattle.theory_trees.specs.Agreeing.{Agreeing}
 use Rattle.key_groups.specs.Numbers.{NumberedTo}
 
 -- Two different targets that agree below one context stand in one group; what is no node is no group

@@ -11,11 +11,11 @@ use lib.ListN.{length, getD, set, length-set}
 use lib.Seq.{getD-set-same, getD-set-other}
 use Rattle.meaning.specs.Lists.{every}
 use Rattle.meaning.specs.Paths.{Class, simple}
-use Rattle.meaning.specs.Trees.{Table, IsTree, Down, Equal}
+use Rattle.meaning.specs.Trees.{Table, IsTree, Down}
 use Rattle.meaning.specs.Keys.{EqualPair}
 use Rattle.meaning.specs.Records.{readKey, keyIn, isSome}
-use Rattle.theory_trees.specs.Below.{rigid-node, down-inside}
-use Rattle.theory_trees.specs.Laws.{equal-label, equal-symmetric}
+use Rattle.theory_trees.specs.Agreeing.{pair-below}
+use Rattle.theory_trees.specs.Below.{down-inside}
 use Rattle.theory_trees.specs.Reach.{reached-run, reached-down}
 use Rattle.tree_nodes.specs.Decides.{Decides}
 use Rattle.tree_nodes.specs.FileTable.{fileTable}
@@ -177,17 +177,6 @@ module _ (t : Table) (class : List ℕ) (paths : List (List ℕ)) (few : length 
           no = λ h. absurd (true≢false h);
         }
 
-    -- the root alone has its label, and two different targets do not share a node of one key path
-    alone : (x y : ℕ) → x ≡ 0 → 0 < y → y < t .size → Equal κ t x y → ⊥
-    alone x y z p h e = tree .rest y p h .notRoot (sym (equal-label e) ∙ ap (λ (k : ℕ). t .label k) z ∙ tree .root)
-
-    positive : a ≢ b → (x y : ℕ) → Down t a (getD paths i []) x → Down t b (getD paths i []) y → Equal κ t x y → x < t .size → y < t .size
-        → Dec (x ≡ 0) → Dec (y ≡ 0) → (0 < x) × (0 < y)
-    positive d x y dx dy e h g (no n) (no m) = (omega arith, omega arith)
-    positive d x y dx dy e h g (yes z) (yes w) = absurd (d (rigid-node (subst (Down t a (getD paths i [])) (z ∙ sym w) dx) dy refl))
-    positive d x y dx dy e h g (yes z) (no m) = absurd (alone x y z (omega arith) g e)
-    positive d x y dx dy e h g (no n) (yes w) = absurd (alone y x w (omega arith) h (equal-symmetric e))
-
     pub meet-none : (memo : List ℕ) (x : ℕ) → a < b → x ≡ 0 → Stamped t class paths i b memo
         → Along (t .size) from (IsMarked class (row 4096 memo) s) a x → Decides (EqualPair κ t a b (getD paths i [])) false
     meet-none memo x o z st w = record { yes = λ h. absurd (false≢true h); no = λ h p. never p }
@@ -201,7 +190,7 @@ module _ (t : Table) (class : List ℕ) (paths : List (List ℕ)) (few : length 
             let dy = reached-down (getD paths i []) simples (p .fromSecond) in
             let hx = down-inside dx ia in
             let hy = down-inside dy ib in
-            let q = positive different (p .x) (p .y) dx dy (p .equal) hx hy (ℕ-discrete (p .x) 0) (ℕ-discrete (p .y) 0) in
+            let q = pair-below tree a b (getD paths i []) different (p .x) (p .y) dx dy (p .equal) hx hy in
             let c = classed .equal (p .x) (p .y) hx hy (p .equal) in
             let m = ap (λ (j : ℕ). getD (row 4096 memo) j 0) c ∙ st .all (p .y) (q .1) hy dy ∙ sym stamp in
             let l = w .later (p .x) (q .0) hx (lists .every (p .x) a (q .0) hx dx) (record { is = m }) in

@@ -13,7 +13,8 @@ use Rattle.meaning.specs.Keys.{Key, Breaks}
 use Rattle.theory_trees.specs.Reach.{reached-inside}
 use Rattle.tree_nodes.specs.Decides.{Decides}
 use Rattle.key_reach.specs.Tops.{Tops, tops-at}
-use Rattle.key_groups.specs.Agreeing.{Agreeing, swap-agreeing}
+use Rattle.theory_trees.specs.Agreeing.{Agreeing, swap-agreeing}
+use Rattle.theory_trees.specs.Witness.{FirstTargets}
 
 -- b is the least target behind a that agrees with it; 4,096 where there is none
 pub record MateIs (κ : ℕ → Class) (t : Table) (key : Key) (tops : List ℕ) (a b : ℕ) : Type 0 where
@@ -89,14 +90,6 @@ module _ (κ : ℕ → Class) (t : Table) (key : Key) (tops : List ℕ) where
           larger (ap (λ (j : ℕ). getD tops j 0) (sym e)) (sym e)
           (w .least p d (omega arith) (subst (λ (j : ℕ). Agreeing κ t key p j d) e g))
       go p c d l o g (no f) = behind c d (s .first p c d (omega arith) o g)
-
--- Context and targets come first
-pub record FirstTargets (κ : ℕ → Class) (t : Table) (key : Key) (q a b : ℕ) : Type 0 where
-  pub agreeing : Agreeing κ t key q a b
-  pub ordered : a < b
-  pub highest : (p c d : ℕ) → Agreeing κ t key p c d → c < d → q ≤ p
-  pub smaller : (c d : ℕ) → Agreeing κ t key q c d → c < d → a ≤ c
-  pub larger : (d : ℕ) → Agreeing κ t key q a d → a < d → b ≤ d
 
 module _ (κ : ℕ → Class) (t : Table) (key : Key) (tops : List ℕ) (tree : IsTree κ t) (few : t .size ≤ 4096)
     (highest-of : Tops t (key .context) (key .target) tops) (n q a b : ℕ) (all : t .size ≤ n) (s : Best κ t key tops n q a b) where

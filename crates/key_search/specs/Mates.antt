@@ -21,7 +21,7 @@ use Rattle.tree_rows.specs.Chain.{byClass, NextIn, next-in}
 use Rattle.key_reach.specs.Tops.{Tops, tops-at, tops-equal}
 use Rattle.tree_rows.specs.Rows.{row, row-set}
 use Rattle.tree_rows.specs.Hung.{Hung}
-use Rattle.key_groups.specs.Agreeing.{Agreeing}
+use Rattle.theory_trees.specs.Agreeing.{Agreeing}
 use Rattle.key_groups.specs.Groups.{Grouped, Numbered, ends, ends-number}
 use Rattle.key_groups.specs.Hung.{Listed, listed-first, listed-next}
 use Rattle.key_search.specs.Best.{MateIs}

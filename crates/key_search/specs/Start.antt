@@ -18,7 +18,7 @@ use Rattle.tree_rows.specs.Rows.{row, row-set, row-length, row-apart}
 use Rattle.tree_rows.specs.Hung.{Hung, HungAll}
 use Rattle.tree_rows.specs.Prepared.{Prepared}
 use Rattle.key_pairs.specs.Marks.{Hanging}
-use Rattle.key_groups.specs.Agreeing.{Agreeing}
+use Rattle.theory_trees.specs.Agreeing.{Agreeing}
 use Rattle.key_groups.specs.GoodKey.{GoodKey}
 use Rattle.key_groups.specs.Groups.{Grouped}
 use Rattle.key_groups.specs.Chains.{TopsStay, SortedBy}

@@ -59,7 +59,7 @@ module _ (tree classes : List ℕ) (second : Bool) (judged : Judged)
 
   pub tree-lists : Tables classes → (k : ℕ) (buffer after : List ℕ) (used : ℕ) → 65536 ≤ length buffer → o ≡ O.Fine
       → Wrote buffer after 0 (blockOf (classBy classes) (fileTable tree) k) used → (profile : List ℕ) → ReadyIn profile classes second
-      → Lists profile tree k buffer (record { verdict = listed; number = 0; input = 0; place = 0; used = used; buffer = after })
+      → Lists profile tree k buffer (usedOf listed used after)
   unfolding filled
   tree-lists tables k buffer after used h x wrote profile ready =
       let accepted : sound ≡ treeRefusal (secondIn profile) (labelsIn profile) tree = outcome-fine 3 judged e x ∙ says-in ready in

@@ -10,7 +10,7 @@ use Rattle.meaning.specs.Limits.{proofBytes}
 use Rattle.meaning.specs.Lists.{Each}
 use Rattle.meaning.specs.Paths.{Label, classOf, singles, Included}
 use Rattle.meaning.specs.Trees.{Table, tableOf}
-use Rattle.meaning.specs.Keys.{Key, Breaks, Keeps, Implied}
+use Rattle.meaning.specs.Keys.{Key, Keeps, FirstWitness, Implied}
 use Rattle.meaning.specs.Rules.{Line, FollowsAt, FollowsBelow, EndsWith}
 use Rattle.meaning.specs.Records.{recordLength, recordBody}
 use Rattle.meaning.specs.Refusals
@@ -21,8 +21,8 @@ use Rattle.meaning.specs.Listing.{block}
 pub data Verdict : Type 0 where
   refused rewritten included notIncluded kept broken accepted implied notImplied listed : Verdict
 
--- An answer: the verdict, "number, input .. and record number" of a refusal (else 0), bytes used, and the answer buffer at the end (empty
--- where an operation is lent none)
+-- An answer: the verdict, "number, input .. and record number" of a refusal (else 0), bytes used, the answer buffer at the end (empty
+-- where an operation is lent none), and the numbers of a witness (none where no key is found broken)
 pub record Answer : Type 0 where
   pub verdict : Verdict
   pub number : ℕ
@@ -30,18 +30,28 @@ pub record Answer : Type 0 where
   pub place : ℕ
   pub used : ℕ
   pub buffer : List ℕ
+  pub witness : List ℕ
 
 -- "A refusal returns number, input .. and record number ..; all lent bytes stay."
 unfoldable pub refusedBy : Refusal → List ℕ → Answer
-refusedBy r buffer = record { verdict = refused; number = r .number; input = r .input; place = r .place; used = 0; buffer = buffer }
+refusedBy r buffer = record { verdict = refused; number = r .number; input = r .input; place = r .place; used = 0; buffer = buffer; witness = [] }
 
 -- "bytes used"; "Bytes after those used are unchanged."
 unfoldable pub filled : Verdict → List ℕ → List ℕ → Answer
 filled v bytes buffer =
-    record { verdict = v; number = 0; input = 0; place = 0; used = length bytes; buffer = bytes ++ drop (length bytes) buffer }
+    record { verdict = v; number = 0; input = 0; place = 0; used = length bytes; buffer = bytes ++ drop (length bytes) buffer; witness = [] }
 
 unfoldable pub plain : Verdict → Answer
-plain v = record { verdict = v; number = 0; input = 0; place = 0; used = 0; buffer = [] }
+plain v = record { verdict = v; number = 0; input = 0; place = 0; used = 0; buffer = []; witness = [] }
+
+-- 02, request 9: "Wherever a tree is found to break a key, the answer is to carry the context node, the two target nodes, and for each key
+-- path one value-equal pair."
+unfoldable pub shown : Verdict → List ℕ → Answer
+shown v numbers = record { verdict = v; number = 0; input = 0; place = 0; used = 0; buffer = []; witness = numbers }
+
+-- "12 carries it for the lowest broken key"
+unfoldable pub brokenBy : ℕ → List ℕ → Answer
+brokenBy n numbers = record { verdict = refused; number = 12; input = 1; place = n; used = 0; buffer = []; witness = numbers }
 
 -- The answer is that refusal, or where there is none what Q says of it
 unfoldable pub choose : ℕ → Type 0 → Type 0 → Type 0
@@ -95,21 +105,21 @@ treeIn profile tree = tableOf (nodesIn (secondIn profile) (labelsIn profile) tre
 unfoldable pub KeepsIn : (profile tree : List ℕ) → Key → Type 0
 KeepsIn profile tree key = Keeps (classOf (labelsIn profile)) (treeIn profile tree) key
 
-unfoldable pub BreaksIn : (profile tree : List ℕ) → Key → Type 0
-BreaksIn profile tree key = Breaks (classOf (labelsIn profile)) (treeIn profile tree) key
+unfoldable pub FirstIn : (profile tree : List ℕ) → Key → List ℕ → Type 0
+FirstIn profile tree key numbers = FirstWitness (classOf (labelsIn profile)) (treeIn profile tree) key numbers
 
 -- the refusals of profile, question and tree in their order
 unfoldable pub treeRefusals : (profile question tree : List ℕ) → List Refusal
 treeRefusals profile question tree =
     profileRefusal profile ∷ questionRefusal (labelsIn profile) question ∷ treeRefusal (secondIn profile) (labelsIn profile) tree ∷ []
 
--- "test whether a tree keeps a key"
+-- "test whether a tree keeps a key": a broken one with its first witness
 unfoldable pub TestsTree : (profile question tree : List ℕ) → Answer → Type 0
 TestsTree profile question tree =
     Unless (treeRefusals profile question tree) []
     (λ answer.
     (KeepsIn profile tree (questionIn question) × (answer ≡ plain kept))
-    ⊎ (BreaksIn profile tree (questionIn question) × (answer ≡ plain broken)))
+    ⊎ ((numbers : List ℕ) × FirstIn profile tree (questionIn question) numbers × (answer ≡ shown broken numbers)))
 
 -- The lines of a proof judged from the front: the first that does not follow is refused by 9, else the first that is not a line by its own
 -- number, else the proof by 10 where its last key is not the question, else it is accepted
@@ -132,15 +142,15 @@ ChecksProof profile question proof =
     []
     (ProofJudged (singleIn profile) (labelsIn profile) (keysIn profile) (questionIn question) (proofWalked (labelsIn profile) proof))
 
--- "check a counterexample": 12 "(input 1, as record the lowest such key number)", then 13
+-- "check a counterexample": 12 "(input 1, as record the lowest such key number)" with that key's first witness, then 13; accepted with the
+-- question's first witness
 pub data CounterexampleJudged (profile question tree : List ℕ) (answer : Answer) : Type 0 where
   breaksKey : (n : ℕ) (key : Key) → getElem? (keysIn profile) n ≡ some key → Each (KeepsIn profile tree) (take n (keysIn profile))
-      → BreaksIn profile tree key → answer ≡ refusedBy (record { number = 12; input = 1; place = n }) []
-      → CounterexampleJudged profile question tree answer
+      → (numbers : List ℕ) → FirstIn profile tree key numbers → answer ≡ brokenBy n numbers → CounterexampleJudged profile question tree answer
   keepsQuestion : Each (KeepsIn profile tree) (keysIn profile) → KeepsIn profile tree (questionIn question)
       → answer ≡ refusedBy (record { number = 13; input = 3; place = 0 }) [] → CounterexampleJudged profile question tree answer
-  refutes : Each (KeepsIn profile tree) (keysIn profile) → BreaksIn profile tree (questionIn question) → answer ≡ plain accepted
-      → CounterexampleJudged profile question tree answer
+  refutes : Each (KeepsIn profile tree) (keysIn profile) → (numbers : List ℕ) → FirstIn profile tree (questionIn question) numbers
+      → answer ≡ shown accepted numbers → CounterexampleJudged profile question tree answer
 
 unfoldable pub ChecksCounterexample : (profile question tree : List ℕ) → Answer → Type 0
 ChecksCounterexample profile question tree =
@@ -165,7 +175,8 @@ pub record TreeWritten (profile question buffer : List ℕ) (answer : Answer) : 
   pub fails : Implied (secondIn profile) (labelsIn profile) (keysIn profile) (questionIn question) → ⊥
   pub u : ℕ
   pub isU : IsU (singleIn profile) (keysIn profile) (questionIn question) u
-  pub checked : ChecksCounterexample profile question (writtenTree (classOf (labelsIn profile)) (questionIn question) u) (plain accepted)
+  pub witness : List ℕ
+  pub checked : ChecksCounterexample profile question (writtenTree (classOf (labelsIn profile)) (questionIn question) u) (shown accepted witness)
   pub answered : answer ≡ filled notImplied (writtenTree (classOf (labelsIn profile)) (questionIn question) u) buffer
 
 unfoldable pub Decides : (profile question buffer : List ℕ) → Answer → Type 0

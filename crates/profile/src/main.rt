@@ -1,7 +1,6 @@
 // The program `profile`: rewrite a profile, give the body of a record, test inclusion of two paths, test whether a tree keeps a key. Thin over the public operations: it reads files,
 // calls one operation and prints its answer.
 use answers::Inclusion;
-use answers::Keeping;
 use answers::Rewriting;
 use files::Number;
 use files::is_word;
@@ -11,6 +10,7 @@ use files::print_count;
 use files::print_refusal;
 use files::read_argument;
 use files::write_argument;
+use witness_lines::print_keeping;
 
 // Of a file is read one byte more than its size limit, so that it is refused by size, or by 4.
 const PROFILE_ROOM: usize = 16385;
@@ -80,12 +80,7 @@ fn keep() {
     let asked = read_argument(3, &mut question);
     let mut tree = [0u8; TREE_ROOM];
     let nodes = read_argument(4, &mut tree);
-    let kept = tree_checks::keep(&profile[..length], &question[..asked], &tree[..nodes]);
-    match kept {
-        Keeping::Kept => print(b"kept\n"),
-        Keeping::Broken => print(b"broken\n"),
-        Keeping::Refused(r) => print_refusal(r.number, r.input, r.place),
-    }
+    print_keeping(tree_checks::keep(&profile[..length], &question[..asked], &tree[..nodes]));
 }
 
 // `profile body PROFILE N`: digits alone are a number.

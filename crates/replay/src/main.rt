@@ -6,7 +6,6 @@
 use answers::Checking;
 use answers::Deciding;
 use answers::Inclusion;
-use answers::Keeping;
 use answers::Listing;
 use answers::Rewriting;
 use files::print;
@@ -23,6 +22,8 @@ use replay_frames::lent::fill;
 use replay_frames::lent::filled;
 use replay_frames::lent::refused;
 use tree_checks::check_counterexample;
+use witness_lines::print_countering;
+use witness_lines::print_keeping;
 
 const REWRITE: u8 = 1;
 
@@ -74,12 +75,7 @@ fn include(profile: &[u8], path: &[u8], other: &[u8]) {
 }
 
 fn keep(profile: &[u8], question: &[u8], tree: &[u8]) {
-    let kept = tree_checks::keep(profile, question, tree);
-    match kept {
-        Keeping::Kept => print(b"kept\n"),
-        Keeping::Broken => print(b"broken\n"),
-        Keeping::Refused(r) => print_refusal(r.number, r.input, r.place),
-    }
+    print_keeping(tree_checks::keep(profile, question, tree));
 }
 
 fn checked(checking: Checking) {
@@ -135,7 +131,7 @@ fn answer_inputs(case: Case, first: &[u8], second: &[u8], third: &[u8], answer: 
         return checked(check_proof(first, second, third));
     }
     if case.operation == CHECK_TREE {
-        return checked(check_counterexample(first, second, third));
+        return print_countering(check_counterexample(first, second, third));
     }
     answer_filling(case, first, second, third, answer);
 }

@@ -7,8 +7,8 @@ use lib.ListN.{length}
 use Rattle.meaning.specs.Limits.{inProfile, wideKind}
 use Rattle.meaning.specs.Lists.{Each}
 use Rattle.meaning.specs.Paths.{classOf}
-use Rattle.meaning.specs.Trees.{tableOf, Once}
-use Rattle.meaning.specs.Keys.{Breaks, Keeps}
+use Rattle.meaning.specs.Trees.{Table, tableOf, Once}
+use Rattle.meaning.specs.Keys.{Keeps, FirstWitness}
 use Rattle.meaning.specs.Refusals.{Refusal, profileRefusal, questionRefusal, questionIn}
 use Rattle.meaning.specs.Pattern.{tOf, IsU, writtenNodes, writtenTree}
 use Rattle.meaning.specs.Operations.{
@@ -18,11 +18,11 @@ use Rattle.meaning.specs.Operations.{
   keysIn,
   treeIn,
   KeepsIn,
-  BreaksIn,
+  FirstIn,
   treeRefusals,
   ChecksCounterexample,
   refutes,
-  plain,
+  shown,
   filled,
   accepted,
   notImplied,
@@ -34,9 +34,10 @@ use Rattle.theory_records.specs.Questions.{question-accepts}
 use Rattle.meaning.specs.Records.{valueBytes}
 use Rattle.theory_records.specs.TreeFiles.{stride}
 use Rattle.theory_records.specs.WrittenInputs.{nodes-size}
-use Rattle.theory_counter.specs.Counterexample.{counter-breaks, counter-keeps, edition-once, counter-not-implied}
+use Rattle.theory_counter.specs.Counterexample.{counter-tree, counter-breaks, counter-keeps, edition-once, counter-not-implied}
 use Rattle.theory_counter.specs.WrittenFile.{counter-accepted, counter-read}
 use Rattle.theory_counter.specs.Size.{written-most}
+use Rattle.theory_trees.specs.Existence.{first-exists}
 use Rattle.theory_operations.specs.Refusing.{unless-sound, sound-more, sound-end}
 
 module _ (profile question : List ℕ) (soundProfile : profileRefusal profile .number ≡ 0)
@@ -74,21 +75,26 @@ module _ (profile question : List ℕ) (soundProfile : profileRefusal profile .n
         subst (λ t. Each (Keeps (classOf (labelsIn profile)) t) (keysIn profile)) (sym same-tree)
         (counter-keeps (labelsIn profile) goodLabels inProfile (questionIn question) goodAsked u low (singleIn profile) (keysIn profile) isU (accepted-keys profile soundProfile))
 
-    breaks-question : BreaksIn profile (writtenTree (classOf (labelsIn profile)) (questionIn question) u) (questionIn question)
-    unfolding BreaksIn
-    breaks-question =
-        subst (λ t. Breaks (classOf (labelsIn profile)) t (questionIn question)) (sym same-tree)
+    -- it breaks the question, so it has a first witness
+    found : (numbers : List ℕ) × FirstWitness (classOf (labelsIn profile)) (tableOf (writtenNodes (classOf (labelsIn profile)) (questionIn question) u)) (questionIn question) numbers
+    found =
+        first-exists (counter-tree (labelsIn profile) goodLabels inProfile (questionIn question) goodAsked u low) (questionIn question)
         (counter-breaks (labelsIn profile) goodLabels inProfile (questionIn question) goodAsked u low (singleIn profile) (keysIn profile) isU)
 
-    pub tree-checks : ChecksCounterexample profile question (writtenTree (classOf (labelsIn profile)) (questionIn question) u) (plain accepted)
+    first-shown : FirstIn profile (writtenTree (classOf (labelsIn profile)) (questionIn question) u) (questionIn question) (found .0)
+    unfolding FirstIn
+    first-shown =
+        subst (λ (t : Table). FirstWitness (classOf (labelsIn profile)) t (questionIn question) (found .0)) (sym same-tree) (found .1)
+
+    tree-checks : ChecksCounterexample profile question (writtenTree (classOf (labelsIn profile)) (questionIn question) u) (shown accepted (found .0))
     unfolding ChecksCounterexample treeRefusals singleIn
     tree-checks =
-        unless-sound _ [] _ (plain accepted)
+        unless-sound _ [] _ (shown accepted (found .0))
         (sound-more _ _ soundProfile
         (sound-more _ _ soundQuestion
         (sound-more _ _
         (ap (λ (r : Refusal). r .number) (counter-accepted (secondIn profile) (labelsIn profile) goodLabels (questionIn question) goodAsked u (isU .fromQ) low once)) sound-end)))
-        (refutes keeps-all breaks-question refl)
+        (refutes keeps-all (found .0) first-shown refl)
 
     pub not-implied-written : (buffer : List ℕ)
         → TreeWritten profile question buffer (filled notImplied (writtenTree (classOf (labelsIn profile)) (questionIn question) u) buffer)
@@ -100,6 +106,7 @@ module _ (profile question : List ℕ) (soundProfile : profileRefusal profile .n
               (accepted-keys profile soundProfile);
           u = u;
           isU = isU;
+          witness = found .0;
           checked = tree-checks;
           answered = refl;
         }

@@ -1,16 +1,17 @@
 -- "Each public operation's contract determines result and final buffer contents for all inputs, refused ones too, and this uniqueness is
 -- proved." Each theorem is over the definition that the operation's `ensures` cites: two answers that meet it are equal.
 use Prim.Native.Nat.{ℕ, zero, suc, _≤_, _<_, _-_}
-use mathlib.Core.Path.{_≡_, refl, sym, _∙_, ap, subst}
+use mathlib.Core.Path.{_≡_, refl, sym, _∙_, ap, ap₂, subst}
 use mathlib.Core.Logic.{_⊎_, inl, inr, ⊎-elim}
 use mathlib.Core.Bool.{Bool}
 use mathlib.Core.List.{List, [], _∷_, List·Memᴰ}
-use mathlib.Core.Option.{Option, none, some}
+use mathlib.Core.Option.{Option, none, some, Option·some-injective}
 use native.Mathlib.Omega.{arith}
 use native.Mathlib.Decide.{decLt}
 use lib.ListN.{length, take, drop, getElem?}
 use Rattle.theory_paths.specs.Bools.{Each-nth, Each-below}
 use Rattle.meaning.specs.Keys.{Key, Keeps, Breaks, Implied}
+use Rattle.theory_trees.specs.Witness.{shows-breaks, first-unique}
 use Rattle.meaning.specs.Rules.{Line, FollowsAt, FollowsBelow, EndsWith}
 use Rattle.meaning.specs.Refusals.{Refusal, Walked, firstRefusal}
 use Rattle.meaning.specs.Pattern.{IsU, Leads}
@@ -18,7 +19,7 @@ use Rattle.meaning.specs.Paths
 use Rattle.meaning.specs.Refusals
 use Rattle.meaning.specs.Pattern
 use Rattle.meaning.specs.Operations
-use Rattle.meaning.specs.Operations.{Answer, Unless, choose, refusedBy, Rewrites, Includes, TestsTree, KeepsIn, BreaksIn, ProofJudged, ChecksProof, CounterexampleJudged, ChecksCounterexample, Lists, Decides, ProofWritten, TreeWritten}
+use Rattle.meaning.specs.Operations.{Answer, Unless, choose, refusedBy, Rewrites, Includes, TestsTree, KeepsIn, FirstIn, brokenBy, shown, broken, accepted, ProofJudged, ChecksProof, CounterexampleJudged, ChecksCounterexample, Lists, Decides, ProofWritten, TreeWritten}
 use Rattle.meaning.specs.Operations.{unfollowed, faulty, otherEnd, proved, breaksKey, keepsQuestion, refutes}
 
 -- Below the refusals, the answers of Q are all the same
@@ -54,8 +55,19 @@ includes-unique profile P Q a b = unless-unique _ _ _ (either-unique (λ p n. n 
 
 pub tests-tree-unique : (profile question tree : List ℕ) (a b : Answer) → TestsTree profile question tree a → TestsTree profile question tree b
     → a ≡ b
-unfolding TestsTree KeepsIn BreaksIn Keeps
-tests-tree-unique profile question tree a b = unless-unique _ _ _ (either-unique (λ k w. k w)) a b
+unfolding TestsTree KeepsIn FirstIn Keeps
+tests-tree-unique profile question tree a b = unless-unique _ _ _ go a b
+  where
+    Tested : Answer → Type 0
+    Tested answer =
+        (KeepsIn profile tree (Refusals.questionIn question) × (answer ≡ Operations.plain Operations.kept))
+        ⊎ ((numbers : List ℕ) × FirstIn profile tree (Refusals.questionIn question) numbers × (answer ≡ shown broken numbers))
+
+    go : (a b : Answer) → Tested a → Tested b → a ≡ b
+    go a b (inl p) (inl q) = p .1 ∙ sym (q .1)
+    go a b (inl p) (inr q) = absurd (p .0 (shows-breaks (q .1 .shows)))
+    go a b (inr p) (inl q) = absurd (q .0 (shows-breaks (p .1 .shows)))
+    go a b (inr p) (inr q) = p .2 ∙ ap (shown broken) (first-unique (p .1) (q .1)) ∙ sym (q .2)
 
 -- Two numbers, each the least at which something fails, are the same
 pub least-unique : {P : ℕ → Type 0} (m n : ℕ) → ((i : ℕ) → i < m → P i) → (P m → ⊥) → ((i : ℕ) → i < n → P i) → (P n → ⊥) → m ≡ n
@@ -100,24 +112,24 @@ checks-proof-unique profile question proof a b = unless-unique _ _ _ (judged-uni
 
 module _ (profile question tree : List ℕ) where
   pub counterexample-unique : (a b : Answer) → CounterexampleJudged profile question tree a → CounterexampleJudged profile question tree b → a ≡ b
-  unfolding KeepsIn BreaksIn Keeps
-  counterexample-unique a b (breaksKey m k s l w p) (breaksKey n k′ s′ l′ w′ q) = p ∙ ap at-key (go (decLt m n) (decLt n m)) ∙ sym q
+  unfolding KeepsIn FirstIn Keeps
+  counterexample-unique a b (breaksKey m k s l v w p) (breaksKey n k′ s′ l′ v′ w′ q) =
+      let e = go (decLt m n) (decLt n m) in
+      let same : k ≡ k′ = Option·some-injective k k′ (sym s ∙ ap (getElem? (Operations.keysIn profile)) e ∙ s′) in
+      p ∙ ap₂ brokenBy e (first-unique (subst (λ (key : Key). FirstIn profile tree key v) same w) w′) ∙ sym q
     where
-      at-key : ℕ → Answer
-      at-key x = refusedBy (record { number = 12; input = 1; place = x }) []
-
       go : Dec (m < n) → Dec (n < m) → m ≡ n
-      go (yes h) d = absurd (Each-below _ m n h l′ s w)
-      go (no h) (yes h′) = absurd (Each-below _ n m h′ l s′ w′)
+      go (yes h) d = absurd (Each-below _ m n h l′ s (shows-breaks (w .shows)))
+      go (no h) (yes h′) = absurd (Each-below _ n m h′ l s′ (shows-breaks (w′ .shows)))
       go (no h) (no h′) = omega arith
-  counterexample-unique a b (breaksKey m k s l w p) (keepsQuestion l′ e q) = absurd (Each-nth m l′ s w)
-  counterexample-unique a b (breaksKey m k s l w p) (refutes l′ e q) = absurd (Each-nth m l′ s w)
-  counterexample-unique a b (keepsQuestion l e p) (breaksKey n k′ s′ l′ w′ q) = absurd (Each-nth n l s′ w′)
+  counterexample-unique a b (breaksKey m k s l v w p) (keepsQuestion l′ e q) = absurd (Each-nth m l′ s (shows-breaks (w .shows)))
+  counterexample-unique a b (breaksKey m k s l v w p) (refutes l′ v′ w′ q) = absurd (Each-nth m l′ s (shows-breaks (w .shows)))
+  counterexample-unique a b (keepsQuestion l e p) (breaksKey n k′ s′ l′ v′ w′ q) = absurd (Each-nth n l s′ (shows-breaks (w′ .shows)))
   counterexample-unique a b (keepsQuestion l e p) (keepsQuestion l′ e′ q) = p ∙ sym q
-  counterexample-unique a b (keepsQuestion l e p) (refutes l′ e′ q) = absurd (e e′)
-  counterexample-unique a b (refutes l e p) (breaksKey n k′ s′ l′ w′ q) = absurd (Each-nth n l s′ w′)
-  counterexample-unique a b (refutes l e p) (keepsQuestion l′ e′ q) = absurd (e′ e)
-  counterexample-unique a b (refutes l e p) (refutes l′ e′ q) = p ∙ sym q
+  counterexample-unique a b (keepsQuestion l e p) (refutes l′ v′ w′ q) = absurd (e (shows-breaks (w′ .shows)))
+  counterexample-unique a b (refutes l v w p) (breaksKey n k′ s′ l′ v′ w′ q) = absurd (Each-nth n l s′ (shows-breaks (w′ .shows)))
+  counterexample-unique a b (refutes l v w p) (keepsQuestion l′ e′ q) = absurd (e′ (shows-breaks (w .shows)))
+  counterexample-unique a b (refutes l v w p) (refutes l′ v′ w′ q) = p ∙ ap (shown accepted) (first-unique w w′) ∙ sym q
 
   pub checks-counterexample-unique : (a b : Answer) → ChecksCounterexample profile question tree a → ChecksCounterexample profile question tree b → a ≡ b
   unfolding ChecksCounterexample

@@ -8,3 +8,7 @@ pub mod Climb
 pub mod Reach
 pub mod Sameness
 pub mod Breaking
+pub mod Agreeing
+pub mod Order
+pub mod Witness
+pub mod Existence

@@ -2,7 +2,7 @@
 use Prim.Native.Nat.{ℕ, zero, suc, _+_, _≤_, _<_}
 use mathlib.Core.Path.{_≡_, refl, sym, _∙_, ap, subst}
 use mathlib.Core.Logic.{inl, inr}
-use mathlib.Core.Bool.{Bool, true, false}
+use mathlib.Core.Bool.{Bool}
 use mathlib.Core.List.{List, [], _∷_}
 use mathlib.Core.Option.{some, Option·some-injective}
 use native.Mathlib.Omega.{arith}
@@ -13,10 +13,11 @@ use Rattle.meaning.specs.Lists.{Each}
 use Rattle.meaning.specs.Lists.Each.{end, also}
 use Rattle.meaning.specs.Paths.{Label, Class, classOf, simple}
 use Rattle.meaning.specs.Trees.{Table, tableOf}
-use Rattle.meaning.specs.Keys.{Key, Breaks, Keeps}
+use Rattle.meaning.specs.Keys.{Key, Breaks, Keeps, FirstWitness}
 use Rattle.meaning.specs.Records.{recordBody, recordKind, keyIn}
-use Rattle.meaning.specs.Refusals.{firstEntry, nodesIn, questionIn, treeRefusal}
-use Rattle.meaning.specs.Operations.{TestsTree, ChecksCounterexample, CounterexampleJudged, refusedBy, plain, kept, broken, accepted, secondIn, labelsIn, keysIn, recordsFrom, treeIn, KeepsIn, BreaksIn}
+use Rattle.meaning.specs.Refusals.{firstEntry, nodesIn, questionIn}
+use Rattle.meaning.specs.Refusals
+use Rattle.meaning.specs.Operations.{TestsTree, ChecksCounterexample, refusedBy, plain, shown, brokenBy, kept, broken, accepted, secondIn, labelsIn, keysIn, recordsFrom, treeIn, KeepsIn, FirstIn}
 use Rattle.meaning.specs.Operations.CounterexampleJudged.{breaksKey, keepsQuestion, refutes}
 use Rattle.shapes.specs.Classes.{Tabled, classBy}
 use Rattle.theory_paths.specs.Bools.{each-every}
@@ -34,14 +35,16 @@ use Rattle.judged.specs.declared.Judged.{Judged}
 use Rattle.answers.specs.declared.Outcome.{Outcome}
 use Rattle.answers.specs.declared.Outcome.the-variants as O
 use Rattle.answers.specs.declared.Refusal.{Refusal}
-use Rattle.answers.specs.Cases.{outcomeOf, meant}
+use Rattle.answers.specs.declared.Witness.{Witness}
+use Rattle.answers.specs.Cases.{outcomeOf, meant, numbersOf}
 use Rattle.records.specs.ProfileWalks.{ProfileSays}
 use Rattle.tree_nodes.specs.FileTable.{fileTable, TreeBytes}
-use Rattle.tree_nodes.specs.Decides.{Decides}
 use Rattle.key_groups.specs.GoodKey.{GoodKey}
 use Rattle.checks.specs.Found.{ReadyIn, Tables, ready-in, fine-is}
 use Rattle.tree_checks.specs.Inputs.{Passes, BothSay, none-refuses, profile-refuses, both-refuse}
-use Rattle.tree_checks.specs.ProfileKeys.{keyBodyAt, KeyBodies, KeptBelow, LowestBroken}
+use Rattle.tree_checks.specs.declared.keys.Tested.{Tested}
+use Rattle.tree_checks.specs.declared.keys.Tested.the-variants as T
+use Rattle.tree_checks.specs.ProfileKeys.{keyBodyAt, KeyBodies, KeyTested, tested-broken, tested-kept, LowestBroken}
 
 -- An accepted question and an accepted tree under a class table
 pub record Asked (second : Bool) (question tree classes : List ℕ) : Type 0 where
@@ -105,11 +108,11 @@ module _ {second : Bool} {question tree classes : List ℕ} (asked : Asked secon
     same-table : fileTable tree ≡ tableOf (nodesIn (secondIn profile) (labelsIn profile) tree)
     same-table = file-table (secondIn profile) (labelsIn profile) tree (here .judged)
 
-    breaks-in : (key : Key) → Breaks (classBy classes) (fileTable tree) key → BreaksIn profile tree key
-    unfolding BreaksIn treeIn
-    breaks-in key w =
-        subst (λ (t : Table). Breaks (classOf (labelsIn profile)) t key) same-table
-        (subst (λ (κ : ℕ → Class). Breaks κ (fileTable tree) key) same-class w)
+    first-in : (key : Key) {numbers : List ℕ} → FirstWitness (classBy classes) (fileTable tree) key numbers → FirstIn profile tree key numbers
+    unfolding FirstIn treeIn
+    first-in key {numbers} w =
+        subst (λ (t : Table). FirstWitness (classOf (labelsIn profile)) t key numbers) same-table
+        (subst (λ (κ : ℕ → Class). FirstWitness κ (fileTable tree) key numbers) same-class w)
 
     keeps-in : (key : Key) → (Breaks (classBy classes) (fileTable tree) key → ⊥) → KeepsIn profile tree key
     unfolding KeepsIn Keeps treeIn
@@ -118,25 +121,26 @@ module _ {second : Bool} {question tree classes : List ℕ} (asked : Asked secon
         (subst (λ (κ : ℕ → Class). Breaks κ (fileTable tree) key) (sym same-class)
         (subst (λ (t : Table). Breaks (classOf (labelsIn profile)) t key) (sym same-table) w))
 
-    module _ {body : List ℕ} (isBody : body ≡ recordBody question) {found : Bool}
-        (decided : Decides (Breaks (classBy classes) (fileTable tree) (keyIn body)) found) where
-      breaks-question : found ≡ true → BreaksIn profile tree (questionIn question)
+    module _ {body : List ℕ} (isBody : body ≡ recordBody question) {r : Tested}
+        (tested : KeyTested (classBy classes) (fileTable tree) (keyIn body) r) where
+      first-of-question : {w : Witness} → r ≡ T.Broken w → FirstIn profile tree (questionIn question) (numbersOf w)
       unfolding questionIn
-      breaks-question e = subst (λ (b : List ℕ). BreaksIn profile tree (keyIn b)) isBody (breaks-in (keyIn body) (decided .yes e))
+      first-of-question {w} e =
+          subst (λ (b : List ℕ). FirstIn profile tree (keyIn b) (numbersOf w)) isBody (first-in (keyIn body) (tested-broken tested e))
 
-      keeps-question : found ≡ false → KeepsIn profile tree (questionIn question)
+      keeps-question : r ≡ T.Kept → KeepsIn profile tree (questionIn question)
       unfolding questionIn
-      keeps-question e = subst (λ (b : List ℕ). KeepsIn profile tree (keyIn b)) isBody (keeps-in (keyIn body) (decided .no e))
+      keeps-question e = subst (λ (b : List ℕ). KeepsIn profile tree (keyIn b)) isBody (keeps-in (keyIn body) (tested-kept tested e))
 
-pub tests-broken : {second : Bool} {question tree classes : List ℕ} → Asked second question tree classes → {body : List ℕ} → body ≡ recordBody question → {found : Bool}
-    → Decides (Breaks (classBy classes) (fileTable tree) (keyIn body)) found → found ≡ true → (profile : List ℕ) → ReadyIn profile classes second
-    → TestsTree profile question tree (plain broken)
+pub tests-broken : {second : Bool} {question tree classes : List ℕ} → Asked second question tree classes → {body : List ℕ} → body ≡ recordBody question → {r : Tested}
+    → KeyTested (classBy classes) (fileTable tree) (keyIn body) r → {w : Witness} → r ≡ T.Broken w → (profile : List ℕ) → ReadyIn profile classes second
+    → TestsTree profile question tree (shown broken (numbersOf w))
 unfolding TestsTree
-tests-broken asked b d e profile ready =
-    unless-sound _ [] _ _ (none-refuses _ _ ready (here asked ready)) (inr (breaks-question asked ready b d e, refl))
+tests-broken asked b d {w} e profile ready =
+    unless-sound _ [] _ _ (none-refuses _ _ ready (here asked ready)) (inr (numbersOf w, first-of-question asked ready b d e, refl))
 
-pub tests-kept : {second : Bool} {question tree classes : List ℕ} → Asked second question tree classes → {body : List ℕ} → body ≡ recordBody question → {found : Bool}
-    → Decides (Breaks (classBy classes) (fileTable tree) (keyIn body)) found → found ≡ false → (profile : List ℕ) → ReadyIn profile classes second
+pub tests-kept : {second : Bool} {question tree classes : List ℕ} → Asked second question tree classes → {body : List ℕ} → body ≡ recordBody question → {r : Tested}
+    → KeyTested (classBy classes) (fileTable tree) (keyIn body) r → r ≡ T.Kept → (profile : List ℕ) → ReadyIn profile classes second
     → TestsTree profile question tree (plain kept)
 unfolding TestsTree
 tests-kept asked b d e profile ready =
@@ -169,8 +173,8 @@ module _ {profile classes : List ℕ} {second : Bool} {labels keys : ℕ} (count
   key-at : (n : ℕ) → n < keys → getElem? (keysIn profile) n ≡ some (keyIn (keyBodyAt part n))
   key-at n h = place n h .is ∙ ap (λ (b : List ℕ). some (keyIn b)) (sym (body-place n))
 
-  module _ {question tree : List ℕ} (asked : Asked second question tree classes) {r : ℕ}
-      (lowest : LowestBroken (classBy classes) (fileTable tree) part keys r) where
+  module _ {question tree : List ℕ} (asked : Asked second question tree classes) {hung : List ℕ} {r q a b : ℕ}
+      (lowest : LowestBroken (classBy classes) (fileTable tree) part keys hung r q a b) where
     front-kept : Each (KeepsIn profile tree) (take r (keysIn profile))
     front-kept =
         each-front r (keysIn profile)
@@ -186,25 +190,27 @@ module _ {profile classes : List ℕ} {second : Bool} {labels keys : ℕ} (count
         let e : r ≡ length (keysIn profile) = omega arith in
         subst (Each (KeepsIn profile tree)) (ap (λ (n : ℕ). take n (keysIn profile)) e ∙ take-length (keysIn profile)) front-kept
 
-    pub breaks-key : r < keys → ChecksCounterexample profile question tree (refusedBy (record { number = 12; input = 1; place = r }) [])
+    pub breaks-key : r < keys → (w : Witness) → FirstWitness (classBy classes) (fileTable tree) (keyIn (keyBodyAt part r)) (numbersOf w)
+        → ChecksCounterexample profile question tree (brokenBy r (numbersOf w))
     unfolding ChecksCounterexample
-    breaks-key h =
+    breaks-key h w first =
         unless-sound _ [] _ _ (none-refuses _ _ (counted .ready) (here asked (counted .ready)))
-        (breaksKey r (keyIn (keyBodyAt part r)) (key-at r h) front-kept (breaks-in asked (counted .ready) _ (lowest .here h)) refl)
+        (breaksKey r (keyIn (keyBodyAt part r)) (key-at r h) front-kept (numbersOf w) (first-in asked (counted .ready) _ first) refl)
 
-    module _ (all : keys ≤ r) {body : List ℕ} (isBody : body ≡ recordBody question) {found : Bool}
-        (decided : Decides (Breaks (classBy classes) (fileTable tree) (keyIn body)) found) where
-      pub counterexample : found ≡ true → ChecksCounterexample profile question tree (plain accepted)
+    module _ (all : keys ≤ r) {body : List ℕ} (isBody : body ≡ recordBody question) {tested : Tested}
+        (so : KeyTested (classBy classes) (fileTable tree) (keyIn body) tested) where
+      pub counterexample : {w : Witness} → tested ≡ T.Broken w → ChecksCounterexample profile question tree (shown accepted (numbersOf w))
       unfolding ChecksCounterexample
-      counterexample e =
+      counterexample {w} e =
           unless-sound _ [] _ _ (none-refuses _ _ (counted .ready) (here asked (counted .ready)))
-          (refutes (all-kept all) (breaks-question asked (counted .ready) isBody decided e) refl)
+          (refutes (all-kept all) (numbersOf w) (first-of-question asked (counted .ready) isBody so e) refl)
 
-      pub keeps-all : found ≡ false → ChecksCounterexample profile question tree (refusedBy (record { number = 13; input = 3; place = 0 }) [])
+      pub keeps-all : tested ≡ T.Kept → {r : Refusal} → meant r ≡ record { number = 13; input = 3; place = 0 }
+          → ChecksCounterexample profile question tree (refusedBy (meant r) [])
       unfolding ChecksCounterexample
-      keeps-all e =
+      keeps-all e named =
           unless-sound _ [] _ _ (none-refuses _ _ (counted .ready) (here asked (counted .ready)))
-          (keepsQuestion (all-kept all) (keeps-question asked (counted .ready) isBody decided e) refl)
+          (keepsQuestion (all-kept all) (keeps-question asked (counted .ready) isBody so e) (ap (λ (x : Refusals.Refusal). refusedBy x []) named))
 
 -- the refusals of either operation
 pub tests-profile-stops : {profile classes : List ℕ} {judged : Judged} {second : Bool} {labels keys : ℕ} → ProfileSays profile judged classes second labels keys → {o : Outcome}

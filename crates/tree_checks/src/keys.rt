@@ -1,4 +1,5 @@
-// Whether an accepted tree breaks a key, and the first profile key that it breaks, over tables that serve all keys.
+// Whether an accepted tree breaks a key, and the first profile key that it breaks, with the first witness, over tables that serve all keys.
+use answers::Witness;
 use checks::profiles::body_at_front;
 use key_groups::sorted::SORTED;
 use key_pairs::memo::MEMO;
@@ -6,16 +7,23 @@ use key_search::search::broken_key;
 use places::record_at;
 use tree_rows::hung::HUNG;
 use tree_rows::rows::ROWS;
-ghost use Rattle.meaning.specs.Keys.{Breaks};
+use tree_witness::witness;
+ghost use Rattle.meaning.specs.Keys.{FirstWitness};
 ghost use Rattle.meaning.specs.Records.{keyIn};
+ghost use Rattle.answers.specs.Cases.{numbersOf};
 ghost use Rattle.tree_nodes.specs.FileTable.{fileTable, classBy};
-ghost use Rattle.tree_nodes.specs.Decides.{Decides};
 ghost use Rattle.tree_rows.specs.Prepared.{Prepared};
 ghost use Rattle.key_groups.specs.GoodKey.{GoodKey};
 ghost use Rattle.key_search.specs.Start.{Lent};
-ghost use Rattle.tree_checks.specs.ProfileKeys.{KeyBodies, LowestBroken};
+ghost use Rattle.tree_checks.specs.ProfileKeys.{KeyTested, keyBodyAt, KeyBodies, LowestBroken, KeyFound};
 
-pub fn breaks(
+// What testing a key finds: that the tree keeps it, or the first witness.
+pub enum Tested {
+    Kept,
+    Broken(Witness),
+}
+
+pub fn test_key(
     tree: &[u8],
     classes: &[u8; 256],
     rows: &[u16; ROWS],
@@ -24,16 +32,37 @@ pub fn breaks(
     hung: &mut [u16; HUNG],
     sorted: &mut [u16; SORTED],
     memo: &mut [u16; MEMO],
-) -> bool
+) -> Tested
     requires { ⌜ Prepared (now classes) (now tree) (now rows) × GoodKey (now body) × Lent (now top) (now hung) (now sorted) (now memo) ⌝ }
-    ensures { λ r. ⌜ Decides (Breaks (classBy (now (classes .entry))) (fileTable (now (tree .entry))) (keyIn (now (body .entry)))) r
-        × Lent (now (top .exit)) (now (hung .exit)) (now (sorted .exit)) (now (memo .exit)) ⌝ }
+    ensures { λ r. ⌜ KeyTested (classBy (now (classes .entry))) (fileTable (now (tree .entry))) (keyIn (now (body .entry))) r ⌝ }
 {
     let found = broken_key(tree, classes, rows, body, top, hung, sorted, memo);
-    found.found
+    if found.found {
+        let shown = witness(
+            tree,
+            classes,
+            rows,
+            &*hung,
+            body,
+            found.context,
+            found.first,
+            found.second,
+        );
+        return Tested::Broken(shown);
+    }
+    Tested::Kept
 }
 
-// "as record the lowest such key number"; the number of keys where the tree keeps them all. The part is the profile from its first key on.
+// A key by its number, with the first context and targets against it.
+pub struct Lowest {
+    pub key: usize,
+    pub context: usize,
+    pub first: usize,
+    pub second: usize,
+}
+
+// "as record the lowest such key number"; the number of keys where the tree keeps them all. The part is the profile from its first key on, and the
+// lists are those of the key that is answered.
 pub fn first_broken(
     part: &[u8],
     keys: usize,
@@ -44,19 +73,56 @@ pub fn first_broken(
     hung: &mut [u16; HUNG],
     sorted: &mut [u16; SORTED],
     memo: &mut [u16; MEMO],
-) -> usize
+) -> Lowest
     requires { ⌜ Prepared (now classes) (now tree) (now rows) × KeyBodies (now part) keys × Lent (now top) (now hung) (now sorted) (now memo) ⌝ }
-    ensures { λ r. ⌜ LowestBroken (classBy (now (classes .entry))) (fileTable (now (tree .entry))) (now (part .entry)) keys r
+    ensures { λ r. ⌜ LowestBroken (classBy (now (classes .entry))) (fileTable (now (tree .entry))) (now (part .entry)) keys (now (hung .exit)) (r .key) (r .context) (r .first) (r .second)
         × Lent (now (top .exit)) (now (hung .exit)) (now (sorted .exit)) (now (memo .exit)) ⌝ }
 {
     let mut n = 0;
     while n < keys {
         let rest = record_at(part, n);
         let body = body_at_front(rest);
-        if breaks(tree, classes, rows, body, top, hung, sorted, memo) {
-            return n;
+        let found = broken_key(tree, classes, rows, body, top, hung, sorted, memo);
+        if found.found {
+            return Lowest {
+                key: n,
+                context: found.context,
+                first: found.first,
+                second: found.second,
+            };
         }
         n += 1;
     }
-    keys
+    Lowest {
+        key: keys,
+        context: 0,
+        first: 0,
+        second: 0,
+    }
+}
+
+// The first witness against that key.
+pub fn witness_of(
+    part: &[u8],
+    lowest: Lowest,
+    tree: &[u8],
+    classes: &[u8; 256],
+    rows: &[u16; ROWS],
+    hung: &[u16; HUNG],
+) -> Witness
+    requires { ⌜ KeyFound (now classes) (now tree) (now rows) (now hung) (now part) (lowest .key) (lowest .context) (lowest .first) (lowest .second) ⌝ }
+    ensures { λ r. ⌜ FirstWitness (classBy (now (classes .entry))) (fileTable (now (tree .entry))) (keyIn (keyBodyAt (now (part .entry)) (lowest .key))) (numbersOf r) ⌝ }
+{
+    let rest = record_at(part, lowest.key);
+    let body = body_at_front(rest);
+    witness(
+        tree,
+        classes,
+        rows,
+        hung,
+        body,
+        lowest.context,
+        lowest.first,
+        lowest.second,
+    )
 }

@@ -3,9 +3,11 @@ mod inputs;
 mod keys;
 
 use crate::inputs::read_both;
-use crate::keys::breaks;
+use crate::keys::Tested;
 use crate::keys::first_broken;
-use answers::Checking;
+use crate::keys::test_key;
+use crate::keys::witness_of;
+use answers::Countering;
 use answers::Keeping;
 use answers::Outcome;
 use answers::PROFILE;
@@ -22,15 +24,14 @@ use tree_nodes::fields::NODES;
 use tree_rows::hung::HUNG;
 use tree_rows::rows::ROWS;
 ghost use Prim.Native.Nat.{ℕ};
+ghost use mathlib.Core.Path.{_≡_};
 ghost use mathlib.Core.List.{List};
 ghost use Rattle.meaning.specs.Operations.{TestsTree, ChecksCounterexample};
 ghost use Rattle.checks.specs.Found.{ReadyIn, Tables};
-ghost use Rattle.answers.specs.Cases.{keepingAnswer, checkingAnswer};
+ghost use Rattle.answers.specs.Cases.{meant, keepingAnswer, counteringAnswer};
 ghost use Rattle.tree_checks.specs.Asked.{Asked, Counted};
 
-// 12: "the tree breaks a profile key"; 13: "the tree keeps the question".
-const BREAKS_A_KEY: usize = 12;
-
+// 13: "the tree keeps the question". (12 stands in the reading of `Countering::Breaks`.)
 const KEEPS_THE_QUESTION: usize = 13;
 
 // The answer for an accepted question and an accepted tree. All tables are made once, here.
@@ -45,7 +46,7 @@ fn keep_accepted(question: &[u8], tree: &[u8], classes: &[u8; 256], second: bool
     let mut memo = [0u16; MEMO];
     prepare(tree, classes, &mut rows);
     let body = body_at_front(question);
-    if breaks(
+    let tested = test_key(
         tree,
         classes,
         &rows,
@@ -54,10 +55,11 @@ fn keep_accepted(question: &[u8], tree: &[u8], classes: &[u8; 256], second: bool
         &mut hung,
         &mut sorted,
         &mut memo,
-    ) {
-        return Keeping::Broken;
+    );
+    match tested {
+        Tested::Broken(shown) => Keeping::Broken(shown),
+        Tested::Kept => Keeping::Kept,
     }
-    Keeping::Kept
 }
 
 // The answer under an accepted profile, of which only the class table and the edition are needed.
@@ -72,7 +74,7 @@ fn keep_under(question: &[u8], tree: &[u8], classes: &[u8; 256], second: bool) -
     }
 }
 
-// "A tree keeps the key if ..": kept or broken, exactly.
+// "A tree keeps the key if ..": kept, or broken with the first witness, exactly.
 pub fn keep(profile: &[u8], question: &[u8], tree: &[u8]) -> Keeping
     ensures { λ r. ⌜ TestsTree (now (profile .entry)) (now (question .entry)) (now (tree .entry)) (keepingAnswer r) ⌝ }
 {
@@ -87,8 +89,19 @@ pub fn keep(profile: &[u8], question: &[u8], tree: &[u8]) -> Keeping
     }
 }
 
-// The answer for an accepted question and an accepted tree: 12 with the lowest key number, then 13. All tables are made once, here, and lent to every
-// key in turn.
+// Refusal 13.
+fn keeps_question() -> Refusal
+    ensures { λ r. ⌜ meant r ≡ record { number = 13; input = 3; place = 0 } ⌝ }
+{
+    Refusal {
+        number: KEEPS_THE_QUESTION,
+        input: TREE_OR_PROOF,
+        place: 0,
+    }
+}
+
+// The answer for an accepted question and an accepted tree: 12 with the lowest broken key and its witness, then 13. All tables are made once, here, and
+// lent to every key in turn.
 fn check_accepted(
     profile: &[u8],
     before: usize,
@@ -97,9 +110,9 @@ fn check_accepted(
     tree: &[u8],
     classes: &[u8; 256],
     second: bool,
-) -> Checking
+) -> Countering
     requires { ⌜ Asked second (now question) (now tree) (now classes) × Counted (now profile) (now classes) second before keys ⌝ }
-    ensures { λ r. ⌜ ChecksCounterexample (now (profile .entry)) (now (question .entry)) (now (tree .entry)) (checkingAnswer r) ⌝ }
+    ensures { λ r. ⌜ ChecksCounterexample (now (profile .entry)) (now (question .entry)) (now (tree .entry)) (counteringAnswer r) ⌝ }
 {
     let mut rows = [0u16; ROWS];
     let mut top = [0u16; NODES];
@@ -108,7 +121,7 @@ fn check_accepted(
     let mut memo = [0u16; MEMO];
     prepare(tree, classes, &mut rows);
     let part = record_at(profile, before);
-    let broken = first_broken(
+    let lowest = first_broken(
         part,
         keys,
         tree,
@@ -119,15 +132,13 @@ fn check_accepted(
         &mut sorted,
         &mut memo,
     );
-    if broken < keys {
-        return Checking::Refused(Refusal {
-            number: BREAKS_A_KEY,
-            input: PROFILE,
-            place: broken,
-        });
+    let key = lowest.key;
+    if key < keys {
+        let shown = witness_of(part, lowest, tree, classes, &rows, &hung);
+        return Countering::Breaks(key, shown);
     }
     let body = body_at_front(question);
-    if breaks(
+    let tested = test_key(
         tree,
         classes,
         &rows,
@@ -136,14 +147,11 @@ fn check_accepted(
         &mut hung,
         &mut sorted,
         &mut memo,
-    ) {
-        return Checking::Accepted;
+    );
+    match tested {
+        Tested::Broken(shown) => Countering::Accepted(shown),
+        Tested::Kept => Countering::Refused(keeps_question()),
     }
-    Checking::Refused(Refusal {
-        number: KEEPS_THE_QUESTION,
-        input: TREE_OR_PROOF,
-        place: 0,
-    })
 }
 
 // The answer under an accepted profile with so many records before its keys and so many keys.
@@ -155,20 +163,20 @@ fn check_under(
     tree: &[u8],
     classes: &[u8; 256],
     second: bool,
-) -> Checking
+) -> Countering
     requires { ⌜ Tables (now classes) × Counted (now profile) (now classes) second before keys ⌝ }
-    ensures { λ r. ⌜ ChecksCounterexample (now (profile .entry)) (now (question .entry)) (now (tree .entry)) (checkingAnswer r) ⌝ }
+    ensures { λ r. ⌜ ChecksCounterexample (now (profile .entry)) (now (question .entry)) (now (tree .entry)) (counteringAnswer r) ⌝ }
 {
     let outcome = read_both(question, tree, classes, second);
     match outcome {
-        Outcome::Refused(refusal) => Checking::Refused(refusal),
+        Outcome::Refused(refusal) => Countering::Refused(refusal),
         Outcome::Fine => check_accepted(profile, before, keys, question, tree, classes, second),
     }
 }
 
-// Accepted exactly when the tree keeps every profile key and breaks the question.
-pub fn check_counterexample(profile: &[u8], question: &[u8], tree: &[u8]) -> Checking
-    ensures { λ r. ⌜ ChecksCounterexample (now (profile .entry)) (now (question .entry)) (now (tree .entry)) (checkingAnswer r) ⌝ }
+// Accepted exactly when the tree keeps every profile key and breaks the question, with the question's first witness.
+pub fn check_counterexample(profile: &[u8], question: &[u8], tree: &[u8]) -> Countering
+    ensures { λ r. ⌜ ChecksCounterexample (now (profile .entry)) (now (question .entry)) (now (tree .entry)) (counteringAnswer r) ⌝ }
 {
     let read = read_profile(profile);
     let judged = read.judged;
@@ -178,7 +186,7 @@ pub fn check_counterexample(profile: &[u8], question: &[u8], tree: &[u8]) -> Che
     let keys = read.keys;
     let outcome = of_input(judged, PROFILE);
     match outcome {
-        Outcome::Refused(refusal) => Checking::Refused(refusal),
+        Outcome::Refused(refusal) => Countering::Refused(refusal),
         Outcome::Fine => check_under(profile, before, keys, question, tree, &classes, second),
     }
 }

@@ -31,6 +31,8 @@ use Rattle.meaning.specs.Operations.{
   refusedBy,
   filled,
   plain,
+  shown,
+  brokenBy,
   implied,
   notImplied,
   accepted,
@@ -50,7 +52,7 @@ use Rattle.meaning.specs.Operations.{
   treeIn,
   treeRefusals,
   KeepsIn,
-  BreaksIn,
+  FirstIn,
   ChecksCounterexample,
   CounterexampleJudged,
   breaksKey,
@@ -62,6 +64,7 @@ use Rattle.theory_records.specs.Profiles.{accepted-labels, refusal-none}
 use Rattle.theory_records.specs.TreeFiles.{tree-is-tree, tree-once}
 use Rattle.theory_rules.specs.Accepted.{accepted-implied}
 use Rattle.theory_counter.specs.Counterexample.{class-agrees}
+use Rattle.theory_trees.specs.Witness.{shows-breaks}
 use Rattle.theory_operations.specs.Refusing.{sound-more, sound-end, answer-large}
 use Rattle.theory_decide.specs.NotImplied.{tree-bytes, tree-most}
 
@@ -105,16 +108,17 @@ unfolding Unless choose
 passed-says rs buffer Q answer e u = subst (λ (n : ℕ). choose n (Q answer) (answer ≡ refusedBy (firstRefusal rs) buffer)) e u
 
 -- an answer that accepts refuses nothing
-accepted-passes : (rs : List Refusal) (Q : Answer → Type 0) → Unless rs [] Q (plain accepted) → firstRefusal rs .number ≡ 0
-unfolding Unless choose plain refusedBy
-accepted-passes rs Q u = go (firstRefusal rs .number) u
+accepted-passes : (rs : List Refusal) (Q : Answer → Type 0) (answer : Answer) → answer .verdict ≡ accepted → Unless rs [] Q answer
+    → firstRefusal rs .number ≡ 0
+unfolding Unless choose refusedBy
+accepted-passes rs Q answer says u = go (firstRefusal rs .number) u
   where
-    go : (n : ℕ) → choose n (Q (plain accepted)) (plain accepted ≡ refusedBy (firstRefusal rs) []) → n ≡ 0
+    go : (n : ℕ) → choose n (Q answer) (answer ≡ refusedBy (firstRefusal rs) []) → n ≡ 0
     go zero q = refl
-    go (suc n) e = absurd (not-refused (sym (ap (λ (a : Answer). a .verdict) e)))
+    go (suc n) e = absurd (not-refused (sym (ap (λ (a : Answer). a .verdict) e) ∙ says))
 
-accepted-says : (rs : List Refusal) (Q : Answer → Type 0) → Unless rs [] Q (plain accepted) → Q (plain accepted)
-accepted-says rs Q u = passed-says rs [] Q (plain accepted) (accepted-passes rs Q u) u
+accepted-says : (rs : List Refusal) (Q : Answer → Type 0) (answer : Answer) → answer .verdict ≡ accepted → Unless rs [] Q answer → Q answer
+accepted-says rs Q answer says u = passed-says rs [] Q answer (accepted-passes rs Q answer says u) u
 
 -- ---- the verdict
 
@@ -170,7 +174,7 @@ pub record ProofLines (profile question proof : List ℕ) : Type 0 where
 
 pub accepted-lines : (profile question proof : List ℕ) → ChecksProof profile question proof (plain accepted) → ProofLines profile question proof
 unfolding ChecksProof plain refusedBy
-accepted-lines profile question proof c = go (accepted-says _ _ c)
+accepted-lines profile question proof c = go (accepted-says _ _ (plain accepted) refl c)
   where
     go : ProofJudged (singleIn profile) (labelsIn profile) (keysIn profile) (questionIn question) (proofWalked (labelsIn profile) proof) (plain accepted)
         → ProofLines profile question proof
@@ -179,7 +183,7 @@ accepted-lines profile question proof c = go (accepted-says _ _ c)
     go (otherEnd l z f e) = absurd (not-refused (sym (ap (λ (a : Answer). a .verdict) e)))
     go (proved l z e a) =
         record {
-          sound = refusal-none _ _ (accepted-passes _ _ c) .0;
+          sound = refusal-none _ _ (accepted-passes _ _ (plain accepted) refl c) .0;
           whole = z;
           some = some-line _ _ e;
           most = lines-at-stop (labelsIn profile) proof .few;
@@ -196,26 +200,27 @@ accepted-proof-implies profile question proof c =
     (lines-at-stop (labelsIn profile) proof .good) (p .holds)
 
 -- and what the check of a counterexample accepts is a tree that refutes the question
-pub accepted-tree-refutes : (profile question tree : List ℕ) → ChecksCounterexample profile question tree (plain accepted)
+pub accepted-tree-refutes : (profile question tree numbers : List ℕ) → ChecksCounterexample profile question tree (shown accepted numbers)
     → Implied (secondIn profile) (labelsIn profile) (keysIn profile) (questionIn question) → ⊥
-unfolding ChecksCounterexample treeRefusals KeepsIn BreaksIn treeIn Implied Keeps plain refusedBy
-accepted-tree-refutes profile question tree c all = go (accepted-says _ _ c)
+unfolding ChecksCounterexample treeRefusals KeepsIn FirstIn treeIn Implied Keeps shown brokenBy refusedBy
+accepted-tree-refutes profile question tree numbers c all = go (accepted-says _ _ (shown accepted numbers) refl c)
   where
-    go : CounterexampleJudged profile question tree (plain accepted) → ⊥
-    go (breaksKey n key f k b e) = not-refused (sym (ap (λ (a : Answer). a .verdict) e))
+    go : CounterexampleJudged profile question tree (shown accepted numbers) → ⊥
+    go (breaksKey n key f k v w e) = not-refused (sym (ap (λ (a : Answer). a .verdict) e))
     go (keepsQuestion k q e) = not-refused (sym (ap (λ (a : Answer). a .verdict) e))
-    go (refutes k b e) =
-        let one = refusal-none _ _ (accepted-passes _ _ c) in
+    go (refutes k v w e) =
+        let one = refusal-none _ _ (accepted-passes _ _ (shown accepted numbers) refl c) in
         let two = refusal-none _ _ (one .1) in
         let three = refusal-none _ _ (two .1) in
         all (classOf (labelsIn profile)) (class-agrees (labelsIn profile)) (tableOf (nodesIn (secondIn profile) (labelsIn profile) tree))
         (tree-is-tree (secondIn profile) (labelsIn profile) (accepted-labels profile (one .0)) tree (three .0))
-        (tree-once (secondIn profile) (labelsIn profile) tree (three .0)) k b
+        (tree-once (secondIn profile) (labelsIn profile) tree (three .0)) k (shows-breaks (w .shows))
 
 -- "never both": no question has a proof that the check accepts and a tree that the check accepts
-pub never-both : (profile question proof tree : List ℕ) → ChecksProof profile question proof (plain accepted)
-    → ChecksCounterexample profile question tree (plain accepted) → ⊥
-never-both profile question proof tree p t = accepted-tree-refutes profile question tree t (accepted-proof-implies profile question proof p)
+pub never-both : (profile question proof tree numbers : List ℕ) → ChecksProof profile question proof (plain accepted)
+    → ChecksCounterexample profile question tree (shown accepted numbers) → ⊥
+never-both profile question proof tree numbers p t =
+    accepted-tree-refutes profile question tree numbers t (accepted-proof-implies profile question proof p)
 
 -- "not implied with bytes used (11 times the nodes)"
 pub tree-used : (profile question buffer : List ℕ) → profileRefusal profile .number ≡ 0 → questionRefusal (labelsIn profile) question .number ≡ 0

@@ -6,28 +6,37 @@ use Rattle.tree_checks.proofs.keep_accepted.Reads as reads
 use Rattle.tree_checks.proofs.keep_accepted.Lts as lts
 use Rattle.checks.proofs.profiles.body_at_front.Reads as body-at-front-reads
 use Rattle.row_classes.proofs.prepare.Reads as prepare-reads
-use Rattle.tree_checks.proofs.keys.breaks.Reads as breaks-reads
+use Rattle.tree_checks.proofs.keys.test_key.Reads as test-key-reads
 
--- src/lib.rt:46:5
 prepare-requires : tie.Need-prepare-requires
 prepare-requires c κs = (search (asked-tree), search needs)
 
--- src/lib.rt:47:16
 body-at-front-requires : tie.Need-body-at-front-requires
 body-at-front-requires c κs = search needs
 
--- src/lib.rt:48:8
-breaks-requires : tie.Need-breaks-requires
-breaks-requires c κs = (search needs, search (asked-key), record { tops = search needs; hangs = search needs; sorts = search needs; memos = search needs })
+test-key-requires : tie.Need-test-key-requires
+test-key-requires c κs = (search needs, search (asked-key), record { tops = search needs; hangs = search needs; sorts = search needs; memos = search needs })
 
--- src/lib.rt:58:9
+enum-known-tested : tie.Need-enum-known-tested
+enum-known-tested c = search needs
+
+enum-told : tie.Need-enum-told
+enum-told c = search needs
+
 returns : tie.Need-returns
 returns c = search (tests-broken)
 
--- src/lib.rt:37:1
 returns-2 : tie.Need-returns-2
 returns-2 c = search (tests-kept)
 
 pub keep-accepted-spec : {M : Type 1} → statement M
 keep-accepted-spec =
-    tie.close (tie.spec prepare-requires body-at-front-requires breaks-requires returns returns-2)
+    tie.close
+    (tie.spec
+    prepare-requires
+    body-at-front-requires
+    test-key-requires
+    enum-known-tested
+    enum-told
+    returns
+    returns-2)

@@ -10,7 +10,7 @@ use Rattle.tree_checks.proofs.keys.first_broken.Reads as reads
 use Rattle.tree_checks.proofs.keys.first_broken.Lts as lts
 use Rattle.checks.proofs.profiles.body_at_front.Reads as body-at-front-reads
 use Rattle.places.proofs.record_at.Reads as record-at-reads
-use Rattle.tree_checks.proofs.keys.breaks.Reads as breaks-reads
+use Rattle.key_search.proofs.search.broken_key.Reads as broken-key-reads
 
 abbrev Inv-loop : tie.InvT-loop
 Inv-loop part keys tree classes rows top₀ hung₀ sorted₀ memo₀ n₀ top hung sorted memo n = KeptBelow (classBy classes) (fileTable tree) part n × Lent top hung sorted memo
@@ -18,41 +18,32 @@ Inv-loop part keys tree classes rows top₀ hung₀ sorted₀ memo₀ n₀ top h
 abbrev μ-loop : tie.MeasureT-loop
 μ-loop part keys tree classes rows top₀ hung₀ sorted₀ memo₀ n₀ top hung sorted memo n = keys - n
 
--- src/keys.rt:53:5
 loop-holds : tie.Need-loop-holds Inv-loop μ-loop
 loop-holds c = (kept-none _ _ _, search needs)
 
--- src/keys.rt:54:20
 record-at-requires : tie.Need-record-at-requires Inv-loop μ-loop
 record-at-requires c κs = search needs
 
--- src/keys.rt:55:20
 body-at-front-requires : tie.Need-body-at-front-requires Inv-loop μ-loop
 body-at-front-requires c κs = search needs
 
--- src/keys.rt:56:12
-breaks-requires : tie.Need-breaks-requires Inv-loop μ-loop
-breaks-requires c κs = (search needs, search (good-body), search needs)
+broken-key-requires : tie.Need-broken-key-requires Inv-loop μ-loop
+broken-key-requires c κs = ((search needs, search (good-body)), search needs)
 
--- src/keys.rt:57:13
 returns : tie.Need-returns Inv-loop μ-loop
-returns c = (found-lowest _ _ (c .before .before .before .before .before .before .before .record-at .ensures) (c .before .before .before .before .before .before .body-at-front .ensures) (c .before .breaks .ensures .0) (c .before .before .before .before .before .before .before .before .before .loop .inv .0) (c .before .before .before .before .before .before .before .before .loop-test .taken) (c .if1 .taken), c .before .breaks .ensures .1)
+returns c = (found-lowest _ _ (c .before .before .before .before .before .before .before .record-at .ensures) (c .before .before .before .before .before .before .body-at-front .ensures) (c .before .broken-key .ensures .0) (c .before .broken-key .ensures .1) (c .before .before .before .before .before .before .before .before .before .loop .inv .0) (c .before .before .before .before .before .before .before .before .loop-test .taken) (c .if1 .taken), c .before .broken-key .ensures .2)
 
--- src/keys.rt:59:9
 add-n : tie.Need-add-n Inv-loop μ-loop
 add-n c = search needs
 
--- src/keys.rt:53:5
 loop-less : tie.Need-loop-less Inv-loop μ-loop
 loop-less c = omega arith
 
--- src/keys.rt:53:5
 loop-again : tie.Need-loop-again Inv-loop μ-loop
-loop-again c = (kept-more _ _ (c .before .before .before .before .before .before .before .record-at .ensures) (c .before .before .before .before .before .before .body-at-front .ensures) (c .before .breaks .ensures .0) (c .before .before .before .before .before .before .before .before .before .loop .inv .0) (c .if1 .left), c .before .breaks .ensures .1)
+loop-again c = (kept-more _ _ (c .before .before .before .before .before .before .before .record-at .ensures) (c .before .before .before .before .before .before .body-at-front .ensures) (c .before .broken-key .ensures .0) (c .before .before .before .before .before .before .before .before .before .loop .inv .0) (c .if1 .left), c .before .broken-key .ensures .2)
 
--- src/keys.rt:37:1
 returns-2 : tie.Need-returns-2 Inv-loop μ-loop
-returns-2 c = (search (kept-all), search needs)
+returns-2 c = (kept-all _ _ _ _ (c .before .loop .inv .0) (c .loop-test .left), c .before .loop .inv .1)
 
 pub first-broken-spec : {M : Type 1} → statement M
 first-broken-spec =
@@ -63,7 +54,7 @@ first-broken-spec =
     loop-holds
     record-at-requires
     body-at-front-requires
-    breaks-requires
+    broken-key-requires
     returns
     add-n
     loop-less

@@ -1,0 +1,41 @@
+use Rattle.meaning.specs.Records.{keyIn}
+use Rattle.theory_trees.specs.Witness.{firsts-first}
+use Rattle.tree_nodes.specs.Ready.{bytes-tree}
+use Rattle.tree_witness.specs.Pairs.{targets-inside, pairs-four}
+use Rattle.tree_witness.proofs.witness.Statement.{statement}
+use Rattle.tree_witness.proofs.witness.Tie as tie
+use Rattle.tree_witness.proofs.witness.Reads as reads
+use Rattle.tree_witness.proofs.witness.Lts as lts
+use Rattle.shapes.proofs.keys.count.Reads as count-reads
+use Rattle.tree_witness.proofs.pair_at.Reads as pair-at-reads
+
+pair-at-requires : tie.Need-pair-at-requires
+pair-at-requires c κs = let p = c .before .before .pre in ((p .0, p .1 .ordered, (targets-inside (bytes-tree (p .0 .prepared .tree)) (p .1))), p .1 .agreeing .pairs)
+
+pair-at-requires-2 : tie.Need-pair-at-requires-2
+pair-at-requires-2 c κs = let p = c .before .before .before .pre in ((p .0, p .1 .ordered, (targets-inside (bytes-tree (p .0 .prepared .tree)) (p .1))), p .1 .agreeing .pairs)
+
+pair-at-requires-3 : tie.Need-pair-at-requires-3
+pair-at-requires-3 c κs = let p = c .before .before .before .before .pre in ((p .0, p .1 .ordered, (targets-inside (bytes-tree (p .0 .prepared .tree)) (p .1))), p .1 .agreeing .pairs)
+
+pair-at-requires-4 : tie.Need-pair-at-requires-4
+pair-at-requires-4 c κs = let p = c .before .before .before .before .before .pre in ((p .0, p .1 .ordered, (targets-inside (bytes-tree (p .0 .prepared .tree)) (p .1))), p .1 .agreeing .pairs)
+
+count-requires : tie.Need-count-requires
+count-requires c κs = c .before .before .before .before .before .before .pre .0 .reads
+
+returns : tie.Need-returns
+returns c = let p = c .before .before .before .before .before .before .before .pre in
+    firsts-first (p .1)
+    (pairs-four (keyIn (c .before .before .before .before .before .before .before .args .body .now) .paths) _ _ _ _ _ _ _ _ _ (c .count .ensures .0) (p .0 .few) (c .before .before .before .before .pair-at .ensures) (c .before .before .before .pair-at2 .ensures) (c .before .before .pair-at3 .ensures) (c .before .pair-at4 .ensures))
+
+pub witness-spec : {M : Type 1} → statement M
+witness-spec =
+    tie.close
+    (tie.spec
+    pair-at-requires
+    pair-at-requires-2
+    pair-at-requires-3
+    pair-at-requires-4
+    count-requires
+    returns)

@@ -1,0 +1,41 @@
+-- The first pairs of one to four key paths, one behind the other, are those of the key.
+use Prim.Native.Nat.{ℕ, _*_, _<_, _≤_}
+use mathlib.Core.Path.{_≡_, subst, sym}
+use mathlib.Core.List.{List, [], _∷_}
+use native.Mathlib.Omega.{arith}
+use lib.ListN.{length, getD, take}
+use Rattle.meaning.specs.Paths.{Class}
+use Rattle.meaning.specs.Trees.{Table, IsTree}
+use Rattle.meaning.specs.Keys.{Key}
+use Rattle.theory_trees.specs.Reach.{reached-inside}
+use Rattle.theory_trees.specs.Witness.{FirstPair, FirstPairs, noPath, onePath, FirstTargets}
+
+pub targets-inside : {κ : ℕ → Class} {t : Table} {key : Key} {q a b : ℕ} → IsTree κ t → FirstTargets κ t key q a b → b < t .size
+targets-inside tree f = reached-inside (f .agreeing .second) (reached-inside (f .agreeing .context) (tree .some))
+
+-- x and y are the first pair of key path i, where there is one
+pub record PairAt (κ : ℕ → Class) (t : Table) (a b : ℕ) (paths : List (List ℕ)) (i x y : ℕ) : Type 0 where
+  pub is : i < length paths → FirstPair κ t a b (getD paths i []) x y
+
+pub pair-none : {κ : ℕ → Class} {t : Table} {a b : ℕ} {paths : List (List ℕ)} {i x y : ℕ} → length paths ≤ i → PairAt κ t a b paths i x y
+pair-none h = record { is = λ l. absurd (omega arith) }
+
+module _ {κ : ℕ → Class} {t : Table} {a b : ℕ} where
+  pub pairs-four : (paths : List (List ℕ)) (n x0 y0 x1 y1 x2 y2 x3 y3 : ℕ) → n ≡ length paths → length paths ≤ 4
+      → PairAt κ t a b paths 0 x0 y0 → PairAt κ t a b paths 1 x1 y1 → PairAt κ t a b paths 2 x2 y2 → PairAt κ t a b paths 3 x3 y3
+      → FirstPairs κ t a b paths (take (2 * n) (x0 ∷ y0 ∷ x1 ∷ y1 ∷ x2 ∷ y2 ∷ x3 ∷ y3 ∷ []))
+  pairs-four paths n x0 y0 x1 y1 x2 y2 x3 y3 e few p q r s =
+      subst (λ (m : ℕ). FirstPairs κ t a b paths (take (2 * m) (x0 ∷ y0 ∷ x1 ∷ y1 ∷ x2 ∷ y2 ∷ x3 ∷ y3 ∷ []))) (sym e)
+      (go paths few p q r s)
+    where
+      go : (l : List (List ℕ)) → length l ≤ 4 → PairAt κ t a b l 0 x0 y0 → PairAt κ t a b l 1 x1 y1 → PairAt κ t a b l 2 x2 y2
+          → PairAt κ t a b l 3 x3 y3 → FirstPairs κ t a b l (take (2 * length l) (x0 ∷ y0 ∷ x1 ∷ y1 ∷ x2 ∷ y2 ∷ x3 ∷ y3 ∷ []))
+      go [] h p q r s = noPath
+      go (P ∷ []) h p q r s = onePath x0 y0 (p .is (omega arith)) noPath
+      go (P ∷ Q ∷ []) h p q r s = onePath x0 y0 (p .is (omega arith)) (onePath x1 y1 (q .is (omega arith)) noPath)
+      go (P ∷ Q ∷ R ∷ []) h p q r s =
+          onePath x0 y0 (p .is (omega arith)) (onePath x1 y1 (q .is (omega arith)) (onePath x2 y2 (r .is (omega arith)) noPath))
+      go (P ∷ Q ∷ R ∷ S ∷ []) h p q r s =
+          onePath x0 y0 (p .is (omega arith))
+          (onePath x1 y1 (q .is (omega arith)) (onePath x2 y2 (r .is (omega arith)) (onePath x3 y3 (s .is (omega arith)) noPath)))
+      go (P ∷ Q ∷ R ∷ S ∷ U ∷ l) h p q r s = absurd (omega arith)
