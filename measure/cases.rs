@@ -25,7 +25,7 @@ impl Operation {
         }
     }
 
-    /// How many times the reference's time the product may take (the ratios of the design).
+    /// How many times the reference's time the product may take (the aims of docs/COST.md).
     pub fn aim(self) -> f64 {
         match self {
             Operation::Keep | Operation::CheckCounterexample => 3.0,

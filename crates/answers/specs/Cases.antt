@@ -1,7 +1,8 @@
 -- "Where an answer is an enum, a definition gives this paper's number and values for each case of the enum. The promises use that definition."
-use Prim.Native.Nat.{ℕ, _*_}
+use Prim.Native.Nat.{ℕ, _*_, _-_, _≤_}
 use mathlib.Core.List.{List, [], _∷_}
-use lib.ListN.{take}
+use mathlib.Core.Path.{_≡_}
+use lib.ListN.{take, drop, replicate}
 use Rattle.meaning.specs.Refusals as Table
 use Rattle.meaning.specs.Operations.{Answer, Verdict, refusedBy, plain, shown, brokenBy, rewritten, included, notIncluded, kept, broken, accepted, listed, implied, notImplied}
 use Rattle.judged.specs.declared.Judged.{Judged}
@@ -48,15 +49,24 @@ inclusionAnswer I.NotIncluded = plain notIncluded
 inclusionAnswer (I.Refused r) = refusedBy (meant r) []
 
 -- the numbers of a witness: context, smaller target, larger, and a pair for each key path
+abbrev pub pairsOf : Witness → List ℕ
+pairsOf w = w .x0 ∷ w .y0 ∷ w .x1 ∷ w .y1 ∷ w .x2 ∷ w .y2 ∷ w .x3 ∷ w .y3 ∷ []
+
 abbrev pub numbersOf : Witness → List ℕ
-numbersOf w =
-    w .context ∷ w .first ∷ w .second
-    ∷ take (2 * w .paths) (w .x0 ∷ w .y0 ∷ w .x1 ∷ w .y1 ∷ w .x2 ∷ w .y2 ∷ w .x3 ∷ w .y3 ∷ [])
+numbersOf w = w .context ∷ w .first ∷ w .second ∷ take (2 * w .paths) (pairsOf w)
+
+-- what stands behind the pairs is 0, so that a witness is fixed by its numbers
+pub record Padded (w : Witness) : Type 0 where
+  pub few : w .paths ≤ 4
+  pub zeros : drop (2 * w .paths) (pairsOf w) ≡ replicate (8 - 2 * w .paths) 0
 
 abbrev pub keepingAnswer : Keeping → Answer
 keepingAnswer K.Kept = plain kept
 keepingAnswer (K.Broken w) = shown broken (numbersOf w)
 keepingAnswer (K.Refused r) = refusedBy (meant r) []
+
+pub record KeepingPadded (r : Keeping) : Type 0 where
+  pub padded : (w : Witness) → r ≡ K.Broken w → Padded w
 
 abbrev pub checkingAnswer : Checking → Answer
 checkingAnswer C.Accepted = plain accepted
@@ -66,6 +76,10 @@ abbrev pub counteringAnswer : Countering → Answer
 counteringAnswer (N.Accepted w) = shown accepted (numbersOf w)
 counteringAnswer (N.Breaks n w) = brokenBy n (numbersOf w)
 counteringAnswer (N.Refused r) = refusedBy (meant r) []
+
+pub record CounteringPadded (r : Countering) : Type 0 where
+  pub accepts : (w : Witness) → r ≡ N.Accepted w → Padded w
+  pub breaks : (n : ℕ) (w : Witness) → r ≡ N.Breaks n w → Padded w
 
 abbrev pub listingAnswer : Listing → List ℕ → Answer
 listingAnswer (L.Listed used) buffer = usedOf listed used buffer

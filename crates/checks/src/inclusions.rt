@@ -1,28 +1,24 @@
 // "test inclusion of two paths": "a profile and two bare paths (up to 32 symbols) as inputs 2 and 3".
+use acceptance::accept_profile;
 use answers::Inclusion;
 use answers::Outcome;
-use answers::PROFILE;
 use answers::QUESTION;
 use answers::Refusal;
 use answers::TREE_OR_PROOF;
-use answers::of_input;
+use judged::BAD_SYMBOLS;
+use judged::NOT_VALID;
 use key_shapes::symbols::good_path;
 use key_shapes::validity::is_valid;
 use paths::included;
-use records::profile::read_profile;
 ghost use mathlib.Core.Path.{_≡_};
 ghost use mathlib.Core.List.{List};
 ghost use Prim.Native.Nat.{ℕ};
 ghost use Rattle.meaning.specs.Operations.{Includes};
-ghost use Rattle.checks.specs.Found.{Ready, Tables};
+ghost use Rattle.acceptance.specs.Taken.{Ready, Tables};
 ghost use Rattle.answers.specs.Cases.{inclusionAnswer};
-ghost use Rattle.theory_checks.specs.Paths.{pathNumberBy};
+ghost use Rattle.checks.specs.Paths.{pathNumberBy};
 
 const BARE_PATH: usize = 32;
-
-const BAD_SYMBOLS: usize = 4;
-
-const NOT_VALID: usize = 6;
 
 // "gives 4, or 6 for the path alone"; 0 for neither.
 fn path_number(path: &[u8], classes: &[u8; 256]) -> usize
@@ -68,10 +64,9 @@ fn include_paths(path: &[u8], other: &[u8], classes: &[u8; 256]) -> Inclusion
 pub fn include(profile: &[u8], path: &[u8], other: &[u8]) -> Inclusion
     ensures { λ r. ⌜ Includes (now (profile .entry)) (now (path .entry)) (now (other .entry)) (inclusionAnswer r) ⌝ }
 {
-    let read = read_profile(profile);
-    let judged = read.judged;
+    let read = accept_profile(profile);
+    let outcome = read.outcome;
     let classes = read.classes;
-    let outcome = of_input(judged, PROFILE);
     match outcome {
         Outcome::Refused(refusal) => Inclusion::Refused(refusal),
         Outcome::Fine => include_paths(path, other, &classes),

@@ -1,13 +1,10 @@
 // "read and rewrite a profile"; "give the body of record n of a checked profile".
+use acceptance::accept_profile;
 use answers::ANSWER_BYTES;
 use answers::Outcome;
-use answers::PROFILE;
 use answers::Rewriting;
-use answers::of_input;
 use answers::small_answer;
-use judged::Judged;
 use places::record_at;
-use records::profile::read_profile;
 use shapes::fields::HEAD_BYTES;
 use shapes::fields::word;
 use writing::put;
@@ -23,9 +20,8 @@ pub fn rewrite(profile: &[u8], answer: &mut [u8]) -> Rewriting
     if answer.len() < ANSWER_BYTES {
         return Rewriting::Refused(small_answer());
     }
-    let read = read_profile(profile);
-    let judged = read.judged;
-    let outcome = of_input(judged, PROFILE);
+    let read = accept_profile(profile);
+    let outcome = read.outcome;
     match outcome {
         Outcome::Refused(refusal) => Rewriting::Refused(refusal),
         Outcome::Fine => {
@@ -56,10 +52,10 @@ pub fn body_at_front(rest: &[u8]) -> &[u8]
 pub fn body(profile: &[u8], n: usize) -> &[u8]
     ensures { λ r. ⌜ now r ≡ bodyAt (now (profile .entry)) n ⌝ }
 {
-    let read = read_profile(profile);
-    let judged = read.judged;
-    match judged {
-        Judged::Refused(_, _) => &profile[..0],
-        Judged::Sound => body_at_front(record_at(profile, n)),
+    let read = accept_profile(profile);
+    let outcome = read.outcome;
+    match outcome {
+        Outcome::Refused(_) => &profile[..0],
+        Outcome::Fine => body_at_front(record_at(profile, n)),
     }
 }

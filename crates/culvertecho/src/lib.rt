@@ -1,15 +1,11 @@
 // "decide a question": profile and question as inputs 1 and 2, the answer buffer as input 4. No `requires`: it takes arbitrary bytes and
 // refuses by the numbered table.
+use acceptance::accept_both;
 use answers::ANSWER_BYTES;
 use answers::Deciding;
 use answers::Outcome;
-use answers::PROFILE;
-use answers::QUESTION;
-use answers::of_input;
 use answers::small_answer;
 use decider::decide_accepted;
-use records::profile::read_profile;
-use records::question::read_question;
 ghost use Rattle.meaning.specs.Operations.{Decides};
 ghost use Rattle.answers.specs.Cases.{decidingAnswer};
 
@@ -21,18 +17,12 @@ pub fn decide(profile: &[u8], question: &[u8], answer: &mut [u8]) -> Deciding
     if answer.len() < ANSWER_BYTES {
         return Deciding::Refused(small_answer());
     }
-    let read = read_profile(profile);
-    let judged = read.judged;
-    let first = of_input(judged, PROFILE);
-    if let Outcome::Refused(refusal) = first {
+    let read = accept_both(profile, question);
+    let outcome = read.outcome;
+    if let Outcome::Refused(refusal) = outcome {
         return Deciding::Refused(refusal);
     }
     let classes = read.classes;
-    let asked = read_question(question, &classes);
-    let second = of_input(asked, QUESTION);
-    if let Outcome::Refused(refusal) = second {
-        return Deciding::Refused(refusal);
-    }
     let newer = read.second;
     let before = read.before;
     let keys = read.keys;

@@ -1,7 +1,7 @@
 -- The functions that search and write are given what they ask; one law for each return.
 use Prim.Native.Nat.{ℕ, _+_, _≤_, _<_}
-use mathlib.Core.Path.{_≡_, refl, sym, _∙_, ap, ap₂, subst}
-use mathlib.Core.Logic.{_⊎_, inl, inr, ⊎-elim}
+use mathlib.Core.Path.{_≡_, sym, _∙_, ap, ap₂, subst}
+use mathlib.Core.Logic.{⊎-elim}
 use mathlib.Core.Bool.{Bool, true, false, not}
 use mathlib.Core.List.{List, _++_, flatten, map}
 use native.Mathlib.Omega.{arith}
@@ -9,11 +9,10 @@ use borrow.Author.Tests.{not-true, not-false}
 use lib.ListN.{length, drop}
 use Rattle.meaning.specs.Limits.{inProfile}
 use Rattle.meaning.specs.Paths.{classOf, singles}
-use Rattle.meaning.specs.Keys.{Key}
 use Rattle.meaning.specs.Records.{recordBody, keyIn, readKey, isSome, lineBytes}
 use Rattle.meaning.specs.Refusals.{sound, firstEntry, questionRefusal, profileRefusal, questionIn}
 use Rattle.meaning.specs.Pattern.{qOf, tOf, IsU, writtenTree}
-use Rattle.meaning.specs.Operations.{Answer, Decides, filled, implied, notImplied, singleIn, labelsIn, keysIn, recordsFrom}
+use Rattle.meaning.specs.Operations.{Decides, filled, implied, notImplied, singleIn, labelsIn, keysIn, recordsFrom}
 use Rattle.theory_records.specs.Encodings.{ends-key}
 use Rattle.theory_records.specs.Questions.{question-accepts}
 use Rattle.theory_records.specs.Profiles.{accepted-labels, accepted-keys}
@@ -24,10 +23,10 @@ use Rattle.theory_derive.specs.Spots.{Ends, atT}
 use Rattle.theory_derive.specs.Written.{proofLines}
 use Rattle.theory_decide.specs.Implied.{proofBytesOf}
 use Rattle.theory_decide.specs.Returns.{decide-implied, decide-not}
-use Rattle.theory_search.specs.Accepted.{searchable, found-chain, found-u}
+use Rattle.steps.specs.Accepted.{searchable, found-chain, found-u}
 use Rattle.shapes.specs.Classes.{classBy}
 use Rattle.answers.specs.Cases.{usedOf}
-use Rattle.lines.specs.Checking.{Given}
+use Rattle.records.specs.Accepted.{Given}
 use Rattle.drawing.specs.Sketch.{Asked}
 use Rattle.steps.specs.declared.search.Found.{Found}
 use Rattle.steps.specs.Finding.{Searchable, Finds, stepsBelow}

@@ -1,13 +1,13 @@
 -- An accepted profile's keys stand where the writing of a proof looks them up: `Remembers` of proof_writing.
 use Prim.Native.Nat.{ℕ, suc, _+_, _≤_, _<_}
-use mathlib.Core.Path.{_≡_, refl, sym, _∙_, ap, subst}
+use mathlib.Core.Path.{_≡_, refl}
 use mathlib.Core.Bool.{Bool, true, false, cond}
 use mathlib.Core.List.{List}
 use native.Mathlib.Omega.{arith}
 use lib.Dec.{eqb}
 use lib.ListN.{length, drop, length-drop}
 use Rattle.meaning.specs.Records.{recordLength, recordKind, recordBody}
-use Rattle.meaning.specs.Refusals.{Profile, noProfile, firstOf, profileTests, profileNext, whole, hasEdition, behindEdition, firstEntry, profileWalked, profileIn, profileRefusal, questionRefusal, questionIn}
+use Rattle.meaning.specs.Refusals.{Profile, noProfile, firstOf, profileTests, profileNext, whole, hasEdition, behindEdition, firstEntry, profileWalked, profileRefusal, questionRefusal, questionIn}
 use Rattle.meaning.specs.Operations.{labelsIn, keysIn}
 use Rattle.theory_records.specs.Tests.{both}
 use Rattle.theory_records.specs.Heads.{whole-says}

@@ -19,7 +19,7 @@ ghost use mathlib.Core.Path.{_≡_};
 ghost use lib.ListN.{length};
 ghost use Rattle.meaning.specs.Operations.{Decides};
 ghost use Rattle.answers.specs.Cases.{decidingAnswer};
-ghost use Rattle.lines.specs.Checking.{Given};
+ghost use Rattle.records.specs.Accepted.{Given};
 
 // In edition 2 t, an attribute, steps to its parent u.
 fn steps_up(body: &[u8], u: usize, classes: &[u8; 256], second: bool) -> bool

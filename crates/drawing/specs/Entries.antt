@@ -11,9 +11,9 @@ use Rattle.meaning.specs.Limits.{fillerAttribute}
 use Rattle.meaning.specs.Lists.{numbers}
 use Rattle.meaning.specs.Paths.{Class, isElement}
 use Rattle.meaning.specs.Pattern.{Dressed}
-use Rattle.theory_counter.specs.Flattened.{numbers-length}
 use Rattle.drawing.specs.declared.Drawing.{Drawing}
 use Rattle.drawing.specs.Sketch.{Sketch, dressedAs, addTo, entryAt, sketch, Sized, Shown, Entered, nothing}
+use Rattle.theory_paths.specs.Lists.{map-append, numbers-length}
 
 pub numbers-more : (count start : ℕ) → numbers (suc count) start ≡ numbers count start ++ ((start + count) ∷ [])
 unfolding numbers
@@ -21,10 +21,6 @@ numbers-more zero start = let e : start ≡ start + 0 = omega arith in ap (λ (k
 numbers-more (suc count) start =
     let e : suc start + count ≡ start + suc count = omega arith in
     ap (λ (l : List ℕ). start ∷ l) (numbers-more count (suc start) ∙ ap (λ (k : ℕ). numbers count (suc start) ++ (k ∷ [])) e)
-
-pub map-append : {A B : Type 0} (f : A → B) (xs ys : List A) → map f (xs ++ ys) ≡ map f xs ++ map f ys
-map-append f [] ys = refl
-map-append {B = B} f (x ∷ xs) ys = ap (λ (l : List B). f x ∷ l) (map-append f xs ys)
 
 pub map-agree : {A : Type 0} (f g : ℕ → A) (count start : ℕ) → ((x : ℕ) → start ≤ x → x < start + count → f x ≡ g x)
     → map f (numbers count start) ≡ map g (numbers count start)

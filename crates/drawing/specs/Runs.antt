@@ -1,14 +1,14 @@
 -- The loops of the drawing: what is left to draw, and what it comes to.
 use Prim.Native.Nat.{ℕ, suc, _+_, _*_, _≤_, _<_}
 use mathlib.Core.Path.{_≡_, refl, sym, ap, ap₂, _∙_}
-use mathlib.Core.Bool.{Bool, true, false, _&&_, _||_}
+use mathlib.Core.Bool.{Bool, true, _&&_, _||_}
 use mathlib.Core.List.{List, [], _∷_}
 use native.Mathlib.Omega.{arith}
 use native.Mathlib.Decide.{ℕ-discrete}
 use lib.Dec.{eqb}
 use lib.ListN.{length, getD, drop, length-drop, drop-of-length-le}
 use borrow.Author.Tests.{eq-eqb, ne-eqb}
-use Rattle.meaning.specs.Lists.{any, isEmpty}
+use Rattle.meaning.specs.Lists.{isEmpty}
 use Rattle.meaning.specs.Paths.{Class}
 use Rattle.meaning.specs.Pattern.{drawn}
 use Rattle.shapes.specs.Scans.{drop-step}
@@ -77,35 +77,6 @@ module _ {κ : ℕ → Class} {every last : Bool} where
         sketched = sym (ap (drawRun κ every last (sketch d)) (drop-of-length-le path h)) ∙ r .rest;
         short = let a = r .short in let b = r .within in omega arith;
       }
-
--- whether S holds the empty path
-pub record Seeking (paths : List (List ℕ)) (i : ℕ) : Type 0 where
-  pub within : i ≤ length paths
-  pub rest : any isEmpty (drop i paths) ≡ any isEmpty paths
-
-pub seeking-start : (paths : List (List ℕ)) → Seeking paths 0
-seeking-start paths = record { within = omega arith; rest = refl }
-
-module _ {paths : List (List ℕ)} {i : ℕ} (s : Seeking paths i) where
-  here-test : i < length paths → {p : List ℕ} → p ≡ getD paths i [] → any isEmpty paths ≡ (eqb (length p) 0 || any isEmpty (drop (i + 1) paths))
-  unfolding any
-  here-test h {p} e =
-      sym (s .rest) ∙ ap (any isEmpty) (drop-step [] paths i h)
-      ∙ ap (λ (b : Bool). b || any isEmpty (drop (i + 1) paths)) (ap isEmpty (sym e) ∙ empty-length p)
-
-  pub seeking-stop : i < length paths → {p : List ℕ} → p ≡ getD paths i [] → length p ≡ 0 → true ≡ any isEmpty paths
-  seeking-stop h {p} e z = sym (here-test h e ∙ ap (λ (b : Bool). b || any isEmpty (drop (i + 1) paths)) (eq-eqb (length p) 0 z))
-
-  pub seeking-next : i < length paths → {p : List ℕ} → p ≡ getD paths i [] → (length p ≡ 0 → ⊥) → Seeking paths (i + 1)
-  seeking-next h {p} e z =
-      record {
-        within = omega arith;
-        rest = sym (here-test h e ∙ ap (λ (b : Bool). b || any isEmpty (drop (i + 1) paths)) (ne-eqb (length p) 0 z));
-      }
-
-  pub seeking-end : length paths ≤ i → false ≡ any isEmpty paths
-  unfolding any
-  seeking-end h = sym (ap (any isEmpty) (drop-of-length-le paths h)) ∙ s .rest
 
 -- the next branch hangs under t
 unfoldable pub hung : Drawing → ℕ → Drawing

@@ -3,14 +3,14 @@ use shapes::classes::is_element;
 use shapes::fields::wide;
 use shapes::keys::context;
 use shapes::keys::count;
+use shapes::keys::holds_empty;
 use shapes::keys::path;
 use shapes::keys::target;
 ghost use mathlib.Core.Path.{_≡_};
 ghost use mathlib.Core.Bool.{true, _&&_, _||_};
-ghost use Prim.Native.Nat.{_+_, _*_, _<_, _≤_};
+ghost use Prim.Native.Nat.{_+_, _*_, _<_};
 ghost use lib.ListN.{length};
-ghost use Rattle.meaning.specs.Lists.{any, isEmpty};
-ghost use Rattle.meaning.specs.Records.{readKey, keyIn, isSome};
+ghost use Rattle.meaning.specs.Records.{keyIn};
 ghost use Rattle.meaning.specs.Pattern.{drawn as drawnAs};
 ghost use Rattle.shapes.specs.Classes.{classBy};
 ghost use Rattle.drawing.specs.Sketch.{Room, Shown, Entered, Sizes, Asked, nothing, sketch};
@@ -112,23 +112,6 @@ fn draw_run(drawing: Drawing, classes: &[u8; 256], run: &[u8], every: bool, last
         i += 1;
     }
     d
-}
-
-// "if S holds the empty path"
-fn holds_empty(asked: &[u8]) -> bool
-    requires { ⌜ isSome (readKey (now asked)) ≡ true ⌝ }
-    ensures { λ r. ⌜ r ≡ any isEmpty (keyIn (now (asked .entry)) .paths) ⌝ }
-{
-    let n = count(asked);
-    let mut i = 0;
-    while i < n {
-        let key_path = path(asked, i);
-        if key_path.len() == 0 {
-            return true;
-        }
-        i += 1;
-    }
-    false
 }
 
 // "from t one separate branch for each key path, in order"

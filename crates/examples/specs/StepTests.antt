@@ -1,20 +1,20 @@
 -- The steps of a pattern as tests, and what a test shows of the definition: a route shows that the steps lead from one node to another, a
 -- border that they do not.
-use Prim.Native.Nat.{ℕ, zero, suc, _+_, _-_, _≤_, _<_}
-use mathlib.Core.Path.{_≡_, refl, sym, _∙_, ap, subst}
+use Prim.Native.Nat.{ℕ, _-_, _≤_, _<_}
+use mathlib.Core.Path.{_≡_, sym, subst}
 use mathlib.Core.Logic.{_⊎_, inl, inr, ⊎-elim}
-use mathlib.Core.Bool.{Bool, true, false, _&&_, _||_, not}
+use mathlib.Core.Bool.{Bool, _&&_, _||_, not}
 use mathlib.Core.List.{List, [], _∷_, List·Memᴰ}
 use native.Mathlib.Omega.{arith}
 use native.Mathlib.Decide.{decLt}
 use lib.Dec.{T, eqb, eqb→eq, ltb, leb, ltb→lt, lt→ltb, leb→le, T-not}
 use Rattle.meaning.specs.Lists.{Each, every, any, numbers}
-use Rattle.meaning.specs.Trees.{Table, Child, Down, here, step, Reached}
+use Rattle.meaning.specs.Trees.{Table, Down, here, step, Reached}
 use Rattle.meaning.specs.Keys.{Key}
 use Rattle.meaning.specs.Pattern.{pattern, marked, qOf, tOf, Lands, Step, toChild, toParent, byKey, Leads, arrived, onward}
-use Rattle.theory_paths.specs.Bools.{and-left, and-right, both, or-cases, or-left, or-right, eqb-of, every-each, each-every, Each-every, every-Each, any-some, some-any, Each-at, Each-of}
-use Rattle.theory_trees.specs.Below.{ParentsSmaller}
-use Rattle.theory_trees.specs.Children.{mem-numbers, numbers-mem}
+use Rattle.theory_paths.specs.Bools.{and-left, and-right, both, or-cases, or-left, or-right, eqb-of, every-each, each-every, any-some, some-any, Each-at, Each-of}
+use Rattle.theory_trees.specs.Below.{ParentsSmaller, down-inside}
+use Rattle.theory_trees.specs.Children.{mem-numbers}
 use Rattle.theory_trees.specs.Climb.{reaches, reaches-sound, reaches-complete}
 
 -- a key path reaches a marked node from x
@@ -52,14 +52,9 @@ border single keys asked m =
     ltb (qOf asked) m && (leb m (tOf asked) && (parentsTest (pattern asked)
     && every (λ (x : ℕ). every (λ (y : ℕ). not (stepTest single keys asked x y)) (numbers m 0)) (numbers (pattern asked .size - m) m)))
 
--- what lies below a node of a table is a node of it
-stays-inside : {t : Table} {v w : ℕ} {run : List ℕ} → v < t .size → Down t v run w → w < t .size
-stays-inside h (here p) = omega arith
-stays-inside h (step x c e d) = stays-inside (c .inside) d
-
 same-or-inside : {t : Table} {v w : ℕ} {run : List ℕ} → Down t v run w → (v ≡ w) ⊎ (w < t .size)
 same-or-inside (here p) = inl p
-same-or-inside (step x c e d) = inr (stays-inside (c .inside) d)
+same-or-inside (step x c e d) = inr (down-inside d (c .inside))
 
 pub parents-of-test : (t : Table) → T (parentsTest t) → ParentsSmaller t
 unfolding parentsTest ParentsSmaller
@@ -87,7 +82,7 @@ module _ (single : ℕ → Bool) (keys : List Key) (asked : Key) where
   lands-complete : ParentsSmaller (pattern asked) → (x : ℕ) (p : List ℕ) → x < pattern asked .size → Lands asked x p → T (landsTest asked x p)
   unfolding landsTest
   lands-complete small x p h l =
-      some-any _ (l .mark) (mem-numbers (l .mark) (pattern asked .size) 0 (omega arith) (let i = stays-inside h (l .reached .down) in omega arith))
+      some-any _ (l .mark) (mem-numbers (l .mark) (pattern asked .size) 0 (omega arith) (let i = down-inside (l .reached .down) h in omega arith))
       (both (marked asked (l .mark)) _ (l .isMarked) (reaches-complete (pattern asked) small x p (l .mark) (l .reached)))
 
   key-sound : (x y : ℕ) → T (any (keyTest asked x y) keys) → Step single keys asked x y

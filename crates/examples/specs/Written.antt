@@ -2,8 +2,8 @@
 use Prim.Native.Nat.{ℕ}
 use mathlib.Core.Path.{_≡_, refl}
 use mathlib.Core.Bool.{Bool}
-use mathlib.Core.List.{List, [], _∷_, map, flatten}
-use lib.ListN.{getD, length}
+use mathlib.Core.List.{List, [], _∷_, flatten}
+use lib.ListN.{getD}
 use Rattle.meaning.specs.Lists.{every, any, isEmpty, numbers}
 use Rattle.meaning.specs.Paths.{declared, declaredClass, classOf, isElement}
 use Rattle.meaning.specs.Trees.{Node}

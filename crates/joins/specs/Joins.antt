@@ -3,7 +3,6 @@
 use Prim.Native.Nat.{ℕ, zero, suc, _≤_, _<_, _-_}
 use native.Mathlib.Omega.{arith}
 use mathlib.Core.Path.{_≡_, refl, sym, ap, ap₂, subst, _∙_}
-use mathlib.Core.Logic.{_⊎_, inl, inr, ⊎-elim}
 use mathlib.Core.Bool.{Bool, true, false, _&&_, not}
 use mathlib.Core.List.{List, [], _∷_, _++_, append-assoc, append-nil}
 use lib.Dec.{T, eqb, eqb→eq}
@@ -12,8 +11,8 @@ use lib.Seq.{take-suc, take-length}
 use borrow.Rule.Slice.PartAt.{part-to-end}
 use Rattle.meaning.specs.Lists.{same}
 use Rattle.meaning.specs.Paths.{normal, norm, join}
-use Rattle.theory_paths.specs.Bools.{and-left, and-right, of-true, T-cases, eqb-of}
-use Rattle.theory_paths.specs.Normal.{norm-of-normal, norm-append-right, join-nil-left, join-nil-right}
+use Rattle.theory_paths.specs.Bools.{and-left, and-right, of-true}
+use Rattle.theory_paths.specs.Normal.{norm-of-normal, join-nil-left, join-nil-right, norm-doubled}
 use Rattle.joins.specs.Forms.{isDoubled, normal-two, same-other-length}
 
 -- two paths in normal form that share their meeting symbol
@@ -43,11 +42,6 @@ doubled-first s t e = eqb→eq s 0 (and-left (eqb s 0) (eqb t 0) (of-true (eqb s
 doubled-second : (s t : ℕ) → isDoubled s t ≡ true → t ≡ 0
 unfolding isDoubled
 doubled-second s t e = eqb→eq t 0 (and-right (eqb s 0) (eqb t 0) (of-true (eqb s 0 && eqb t 0) e))
-
--- the doubled 0 is removed
-pub norm-doubled : (x y : List ℕ) → norm ((x ++ (0 ∷ [])) ++ (0 ∷ y)) ≡ norm (x ++ (0 ∷ y))
-unfolding norm
-norm-doubled x y = ap norm (append-assoc x (0 ∷ []) (0 ∷ y)) ∙ sym (norm-append-right x (0 ∷ 0 ∷ y)) ∙ norm-append-right x (0 ∷ y)
 
 norm-shared : (x y : List ℕ) → T (normal (x ++ (0 ∷ []))) → T (normal (0 ∷ y)) → norm ((x ++ (0 ∷ [])) ++ (0 ∷ y)) ≡ x ++ (0 ∷ y)
 norm-shared x y g h = norm-doubled x y ∙ norm-of-normal (x ++ (0 ∷ y)) (normal-glue x 0 y g h)
@@ -128,22 +122,6 @@ module _ (x y : List ℕ) (b : BothNormal x y) where
           within = omega arith;
           joined = shared e ∙ sym (ap (λ (l : List ℕ). l ++ y′) (ends-any e) ∙ append-assoc x′ (0 ∷ []) y′);
         }
-
-    -- the join is the append, or they share the any-path where they meet
-    pub shape-at : (join x y ≡ x ++ y) ⊎ ((z : List ℕ) × (x ≡ z ++ (0 ∷ [])) × (y ≡ 0 ∷ drop 1 y) × (join x y ≡ z ++ y))
-    shape-at = go r refl
-      where
-        go : (b : Bool) → r ≡ b → (join x y ≡ x ++ y) ⊎ ((z : List ℕ) × (x ≡ z ++ (0 ∷ [])) × (y ≡ 0 ∷ drop 1 y) × (join x y ≡ z ++ y))
-        go true e = inr (x′, ends-any e, begins-any e, shared e ∙ ap (λ (l : List ℕ). x′ ++ l) (sym (begins-any e)))
-        go false e = inl (overlap-none e .joined)
-
-  pub shape : (join x y ≡ x ++ y) ⊎ ((z : List ℕ) × (x ≡ z ++ (0 ∷ [])) × (y ≡ 0 ∷ drop 1 y) × (join x y ≡ z ++ y))
-  shape =
-      ⊎-elim (λ e. inl (overlap-left (eqb→eq (length x) 0 e) .joined))
-      (λ n. ⊎-elim (λ e. inl (overlap-right (eqb→eq (length y) 0 e) .joined))
-      (λ m. shape-at (λ e. n (eqb-of (length x) 0 e)) (λ e. m (eqb-of (length y) 0 e)) (isDoubled (getD x (length x - 1) 0) (getD y 0 0)) refl)
-      (T-cases (eqb (length y) 0)))
-      (T-cases (eqb (length x) 0))
 
 -- Laws of `append_is`: the parts of t are x and y
 same-append : (x y t : List ℕ) → length x ≤ length t → same (x ++ y) t ≡ (same x (take (length x) t) && same y (drop (length x) t))

@@ -15,9 +15,21 @@ pub const NOT_ALLOWED: usize = 2;
 
 pub const BAD_LABEL: usize = 3;
 
+pub const BAD_SYMBOLS: usize = 4;
+
+pub const BAD_KEY_PATHS: usize = 5;
+
+pub const NOT_VALID: usize = 6;
+
 pub const TOO_LARGE: usize = 7;
 
 pub const BAD_NODE: usize = 8;
+// "a proof line does not follow"; "proof empty (record 0), or its last key is not the question (that line)"
+pub const UNFOLLOWED: usize = 9;
+
+pub const OTHER_END: usize = 10;
+// "the tree keeps the question"; 12, "the tree breaks a key", stands in the reading of `Countering::Breaks`
+pub const KEEPS_THE_QUESTION: usize = 13;
 
 pub const KEY_TWICE: usize = 15;
 

@@ -3,9 +3,9 @@ use Prim.Native.Nat.{ℕ, _+_, _*_, _-_, _<_, _≤_}
 use mathlib.Core.Path.{_≡_, refl, sym, _∙_, ap, subst}
 use mathlib.Core.List.{List, []}
 use native.Mathlib.Omega.{arith}
-use native.Mathlib.Decide.{ℕ-discrete, decLt}
-use lib.ListN.{length, getD, drop, set, length-set, length-drop}
-use lib.Seq.{getD-set-same, getD-set-other, length-take-le}
+use native.Mathlib.Decide.{ℕ-discrete}
+use lib.ListN.{length, getD, set, length-set}
+use lib.Seq.{getD-set-same, getD-set-other}
 use Rattle.meaning.specs.Trees.{Table}
 use Rattle.tree_rows.specs.Rows.{row, row-at, row-set, row-length, row-apart}
 use Rattle.tree_rows.specs.Hung.{Hung, HungAll}

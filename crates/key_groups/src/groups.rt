@@ -8,7 +8,6 @@ use crate::sorted::NUMBER;
 use crate::sorted::SORTED;
 use crate::sorted::entry;
 use shapes::keys::count;
-use tree_nodes::fields::NODES;
 use tree_nodes::fields::size;
 use tree_rows::hung::HUNG;
 use tree_rows::hung::first_hung;

@@ -1,4 +1,5 @@
 // What the search remembers for a key, in two rows of 4,096: to each number the target it was looked at for last, and marks at classes.
+use tree_nodes::tables::wide;
 ghost use mathlib.Core.Path.{_≡_};
 ghost use Prim.Native.Nat.{_+_, _<_, _≤_};
 ghost use lib.ListN.{getD};
@@ -10,12 +11,6 @@ pub const MEMO: usize = 8192;
 pub const SEEN: usize = 0;
 
 pub const MARKS: usize = 4096;
-
-fn wide(n: u16) -> usize
-    ensures { λ r. ⌜ (r ≡ n) × (r < 65536) ⌝ }
-{
-    n as usize
-}
 
 // What stands at v in the row that starts there.
 pub fn recall(memo: &[u16; MEMO], start: usize, v: usize) -> usize

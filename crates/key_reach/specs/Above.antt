@@ -1,10 +1,10 @@
 -- What lies above a node.
-use Prim.Native.Nat.{ℕ, _<_}
+use Prim.Native.Nat.{ℕ}
 use mathlib.Core.Path.{_≡_}
 use mathlib.Core.List.{List, [], _∷_}
 use native.Mathlib.Omega.{arith}
 use Rattle.meaning.specs.Trees.{Table, Down, here, step}
-use Rattle.theory_trees.specs.Climb.{Last, last-step}
+use Rattle.theory_trees.specs.Climb.{last-step}
 
 -- v is n or lies above it
 pub record Above (t : Table) (v n : ℕ) : Type 0 where

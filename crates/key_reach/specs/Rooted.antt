@@ -1,5 +1,5 @@
 -- Contexts by handing down: the root alone holds a number, 0; a node is a context exactly when it arrives.
-use Prim.Native.Nat.{ℕ, zero, suc, _+_, _<_, _≤_}
+use Prim.Native.Nat.{ℕ, _+_, _<_, _≤_}
 use mathlib.Core.Path.{_≡_, refl, sym, _∙_, ap, subst}
 use mathlib.Core.List.{List}
 use native.Mathlib.Omega.{arith}
@@ -67,12 +67,6 @@ module _ (t : Table) (path from : List ℕ) (small : ParentsSmaller t) (rooted :
 pub record Own (v arrived r : ℕ) : Type 0 where
   pub yes : arrived < 4096 → r ≡ v
   pub no : 4096 ≤ arrived → r ≡ 4096
-
-pub own-number : (v arrived : ℕ) → arrived < 4096 → Own v arrived v
-own-number v arrived h = record { yes = λ g. refl; no = λ g. absurd (omega arith) }
-
-pub own-nothing : (v arrived : ℕ) → (arrived < 4096 → ⊥) → Own v arrived 4096
-own-nothing v arrived h = record { yes = λ g. absurd (h g); no = λ g. refl }
 
 -- .. of a whole table
 pub record Owned (from : List ℕ) (v r : ℕ) : Type 0 where

@@ -12,7 +12,7 @@ use Rattle.theory_paths.specs.Words.{Word}
 use Rattle.theory_trees.specs.Below.{ParentsSmaller, down-greater}
 use Rattle.theory_trees.specs.Reach.{reached-word}
 use Rattle.key_reach.specs.Tabled.{Tabled}
-use Rattle.key_reach.specs.Least.{LeastAt, Least, Handed, any-root, any-above, any-own}
+use Rattle.key_reach.specs.Least.{LeastAt, Least, any-root, any-above, any-own}
 
 -- What stands before i is turned, what stands from i on is as it was
 pub record TurnedTo (Right : ℕ → ℕ → Type 0) (from table : List ℕ) (i : ℕ) : Type 0 where
@@ -111,12 +111,6 @@ module _ (t : Table) (from table : List ℕ) where
 pub record Lesser (a b m : ℕ) : Type 0 where
   pub low : a < b → m ≡ a
   pub high : b ≤ a → m ≡ b
-
-pub lesser-first : (a b : ℕ) → a < b → Lesser a b a
-lesser-first a b h = record { low = λ g. refl; high = λ g. absurd (omega arith) }
-
-pub lesser-second : (a b : ℕ) → (a < b → ⊥) → Lesser a b b
-lesser-second a b h = record { low = λ g. absurd (h g); high = λ g. refl }
 
 module _ (t : Table) (from : List ℕ) (small : ParentsSmaller t) where
   pub any-start : length from ≡ 4096 → TurnedTo (LeastAt t (0 ∷ []) from) from from 1

@@ -2,13 +2,14 @@
 // T"): numbers are handed down the whole tree in place, symbol by symbol, and each node keeps the least. Contexts are what the root alone reaches,
 // so they are found in the same way.
 use shapes::fields::wide;
+use shapes::limits::TREE_NODES;
 use tree_nodes::fields::size;
 use tree_rows::rows::ROWS;
 use tree_rows::rows::label_of;
 use tree_rows::rows::parent_of;
 ghost use mathlib.Core.Path.{_≡_};
 ghost use mathlib.Core.List.{[], _∷_};
-ghost use Prim.Native.Nat.{_<_, _≤_};
+ghost use Prim.Native.Nat.{_<_};
 ghost use lib.ListN.{length};
 ghost use Rattle.tree_nodes.specs.FileTable.{fileTable, TreeBytes};
 ghost use Rattle.tree_rows.specs.Prepared.{Prepared};
@@ -29,7 +30,7 @@ fn from_parent(
     classes: &[u8; 256],
     rows: &[u16; ROWS],
     symbol: usize,
-    table: &[u16; 4096],
+    table: &[u16; TREE_NODES],
     v: usize,
 ) -> u16
     requires { ⌜ Prepared (now classes) (now tree) (now rows) × (v < fileTable (now tree) .size) × (0 < symbol) ⌝ }
@@ -51,7 +52,7 @@ fn by_label(
     classes: &[u8; 256],
     rows: &[u16; ROWS],
     symbol: usize,
-    table: &mut [u16; 4096],
+    table: &mut [u16; TREE_NODES],
 )
     requires { ⌜ Prepared (now classes) (now tree) (now rows) × (0 < symbol) × (length (now table) ≡ 4096) ⌝ }
     ensures { λ _. ⌜ Least (fileTable (now (tree .entry))) (symbol ∷ []) (now (table .entry)) (now (table .exit)) ⌝ }
@@ -74,7 +75,7 @@ fn lesser(a: u16, b: u16) -> u16
 }
 
 // The numbers handed down by the any-path, from the front: to each node its own number, or what came down to its parent where that is less.
-fn by_any_path(tree: &[u8], classes: &[u8; 256], rows: &[u16; ROWS], table: &mut [u16; 4096])
+fn by_any_path(tree: &[u8], classes: &[u8; 256], rows: &[u16; ROWS], table: &mut [u16; TREE_NODES])
     requires { ⌜ Prepared (now classes) (now tree) (now rows) × (length (now table) ≡ 4096) ⌝ }
     ensures { λ _. ⌜ Least (fileTable (now (tree .entry))) (0 ∷ []) (now (table .entry)) (now (table .exit)) ⌝ }
 {
@@ -92,7 +93,7 @@ fn by_symbol(
     classes: &[u8; 256],
     rows: &[u16; ROWS],
     symbol: usize,
-    table: &mut [u16; 4096],
+    table: &mut [u16; TREE_NODES],
 )
     requires { ⌜ Prepared (now classes) (now tree) (now rows) × (length (now table) ≡ 4096) ⌝ }
     ensures { λ _. ⌜ Least (fileTable (now (tree .entry))) (symbol ∷ []) (now (table .entry)) (now (table .exit)) ⌝ }
@@ -110,7 +111,7 @@ fn hand_down(
     classes: &[u8; 256],
     rows: &[u16; ROWS],
     path: &[u8],
-    table: &mut [u16; 4096],
+    table: &mut [u16; TREE_NODES],
 )
     requires { ⌜ Prepared (now classes) (now tree) (now rows) × (length (now table) ≡ 4096) ⌝ }
     ensures { λ _. ⌜ Least (fileTable (now (tree .entry))) (now (path .entry)) (now (table .entry)) (now (table .exit)) ⌝ }
@@ -123,7 +124,7 @@ fn hand_down(
 }
 
 // The root alone has a number.
-fn root_alone(tree: &[u8], classes: &[u8; 256], table: &mut [u16; 4096])
+fn root_alone(tree: &[u8], classes: &[u8; 256], table: &mut [u16; TREE_NODES])
     requires { ⌜ TreeBytes (now classes) (now tree) × (length (now table) ≡ 4096) ⌝ }
     ensures { λ _. ⌜ Rooted (now (table .exit)) (fileTable (now (tree .entry)) .size) ⌝ }
 {
@@ -147,7 +148,7 @@ fn own_number(v: usize, arrived: u16) -> u16
 }
 
 // "each node q reached from the root by C": where the root's number arrived, the node's own.
-fn own_numbers(tree: &[u8], classes: &[u8; 256], table: &mut [u16; 4096])
+fn own_numbers(tree: &[u8], classes: &[u8; 256], table: &mut [u16; TREE_NODES])
     requires { ⌜ TreeBytes (now classes) (now tree) × (length (now table) ≡ 4096) ⌝ }
     ensures { λ _. ⌜ Tabled (Owned (now (table .entry))) (now (table .exit)) (fileTable (now (tree .entry)) .size) ⌝ }
 {
@@ -166,7 +167,7 @@ pub fn highest_contexts(
     rows: &[u16; ROWS],
     context: &[u8],
     target: &[u8],
-    table: &mut [u16; 4096],
+    table: &mut [u16; TREE_NODES],
 )
     requires { ⌜ Prepared (now classes) (now tree) (now rows) × (length (now table) ≡ 4096) ⌝ }
     ensures { λ _. ⌜ Tops (fileTable (now (tree .entry))) (now (context .entry)) (now (target .entry)) (now (table .exit)) ⌝ }

@@ -9,7 +9,7 @@ use key_pairs::memo::MEMO;
 use key_pairs::memo::SEEN;
 use key_pairs::memo::recall;
 use key_pairs::pairs::agree_all;
-use tree_nodes::fields::NODES;
+use shapes::limits::TREE_NODES;
 use tree_rows::hung::HUNG;
 use tree_rows::hung::first_hung;
 use tree_rows::hung::from_of;
@@ -127,7 +127,7 @@ pub fn mate_of(
     ensures { λ r. ⌜ MateIs (classBy (now (classes .entry))) (fileTable (now (tree .entry))) (keyIn (now (body .entry))) (row 0 (now (sorted .entry))) a r
         × Marked (fileTable (now (tree .entry))) (row 16384 (now (rows .entry))) (keyIn (now (body .entry)) .paths) (now (memo .exit)) × Lower (fileTable (now (tree .entry))) (row 0 (now (memo .exit))) (a + 1) ⌝ }
 {
-    let mut least = NODES;
+    let mut least = TREE_NODES;
     let mut x = first_hung(hung, pivot, a);
     while x != 0 {
         let mated = Mated { pivot, a, least };

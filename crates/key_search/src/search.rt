@@ -12,7 +12,7 @@ use key_pairs::memo::SEEN;
 use key_reach::highest_contexts;
 use shapes::keys::context;
 use shapes::keys::target;
-use tree_nodes::fields::NODES;
+use shapes::limits::TREE_NODES;
 use tree_nodes::fields::size;
 use tree_nodes::tables::at;
 use tree_rows::hung::HUNG;
@@ -40,7 +40,7 @@ pub struct Found {
 }
 
 // The highest context of each node, and for its group the same.
-fn spread(count: usize, top: &[u16; 4096], sorted: &mut [u16; SORTED])
+fn spread(count: usize, top: &[u16; TREE_NODES], sorted: &mut [u16; SORTED])
     requires { ⌜ (count ≤ 4096) × (length (now sorted) ≡ 24576) ⌝ }
     ensures { λ _. ⌜ SpreadTo (now (top .entry)) (now (sorted .exit)) count ⌝ }
 {
@@ -72,7 +72,7 @@ fn sort_key(
     classes: &[u8; 256],
     rows: &[u16; ROWS],
     body: &[u8],
-    top: &mut [u16; 4096],
+    top: &mut [u16; TREE_NODES],
     hung: &mut [u16; HUNG],
     sorted: &mut [u16; SORTED],
 ) -> usize
@@ -104,7 +104,7 @@ fn first_pair(
         × (length (now (memo .exit)) ≡ 8192) ⌝ }
 {
     let count = size(tree);
-    let mut best = NODES;
+    let mut best = TREE_NODES;
     let mut first = 0;
     let mut second = 0;
     let mut a = 0;
@@ -112,7 +112,7 @@ fn first_pair(
         let own = entry(sorted, TOP, a);
         if own < best {
             let b = mate_of(tree, classes, rows, hung, body, sorted, memo, pivot, a);
-            if b < NODES {
+            if b < TREE_NODES {
                 best = own;
                 first = a;
                 second = b;
@@ -124,7 +124,7 @@ fn first_pair(
             a += 1;
         }
     }
-    if best < NODES {
+    if best < TREE_NODES {
         return Found {
             found: true,
             context: best,
@@ -147,7 +147,7 @@ pub fn broken_key(
     classes: &[u8; 256],
     rows: &[u16; ROWS],
     body: &[u8],
-    top: &mut [u16; 4096],
+    top: &mut [u16; TREE_NODES],
     hung: &mut [u16; HUNG],
     sorted: &mut [u16; SORTED],
     memo: &mut [u16; MEMO],

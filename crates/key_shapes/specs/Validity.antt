@@ -7,12 +7,13 @@ use native.Mathlib.Omega.{arith}
 use lib.Dec.{eqb}
 use lib.ListN.{length, getD, drop, length-drop}
 use borrow.Author.Tests.{ne-eqb, not-true, not-false}
-use Rattle.meaning.specs.Lists.{every, isEmpty}
+use Rattle.meaning.specs.Lists.{every}
 use Rattle.meaning.specs.Paths.{Class, element, attribute, isElement, norm, join, valid}
 use Rattle.meaning.specs.Keys.{Key}
 use Rattle.shapes.specs.Classes.{classBy, allValidBy}
 use Rattle.shapes.specs.Scans.{drop-step}
 use Rattle.shapes.specs.KeyPaths.{AtPath, PathScan, path-scan-start}
+use Rattle.theory_paths.specs.Valid.{valid-norm}
 
 -- a symbol that may stand before others
 unfoldable pub inner : (ℕ → Class) → ℕ → Bool
@@ -28,32 +29,7 @@ unfolding every
 every-append f [] b = refl
 every-append f (x ∷ a) b = ap (λ (t : Bool). f x && t) (every-append f a b) ∙ sym (and-assoc (f x) (every f a) (every f b))
 
-norm-empty : (p : List ℕ) → isEmpty (norm p) ≡ isEmpty p
-unfolding norm isEmpty
-norm-empty [] = refl
-norm-empty (suc a ∷ p) = refl
-norm-empty (zero ∷ []) = refl
-norm-empty (zero ∷ zero ∷ p) = norm-empty (zero ∷ p)
-norm-empty (zero ∷ suc a ∷ p) = refl
-
 module _ (κ : ℕ → Class) where
-  valid-cons : (s : ℕ) (p : List ℕ) → valid κ (s ∷ p) ≡ cond (isEmpty p) true (inner κ s && valid κ p)
-  unfolding valid inner isEmpty
-  valid-cons s [] = refl
-  valid-cons s (t ∷ p) = refl
-
-  valid-suc : (a : ℕ) (p : List ℕ) → valid κ (norm p) ≡ valid κ p → valid κ (suc a ∷ norm p) ≡ valid κ (suc a ∷ p)
-  valid-suc a p e =
-      valid-cons (suc a) (norm p) ∙ ap₂ (λ (b v : Bool). cond b true (inner κ (suc a) && v)) (norm-empty p) e ∙ sym (valid-cons (suc a) p)
-
-  pub valid-norm : (p : List ℕ) → valid κ (norm p) ≡ valid κ p
-  unfolding norm valid
-  valid-norm [] = refl
-  valid-norm (suc a ∷ p) = valid-suc a p (valid-norm p)
-  valid-norm (zero ∷ []) = refl
-  valid-norm (zero ∷ zero ∷ p) = valid-norm (zero ∷ p)
-  valid-norm (zero ∷ suc a ∷ p) = valid-suc a p (valid-norm p)
-
   inner-norm : (p : List ℕ) → every (inner κ) (norm p) ≡ every (inner κ) p
   unfolding norm every inner
   inner-norm [] = refl
@@ -80,8 +56,8 @@ module _ (κ : ℕ → Class) where
   pub valid-joined : (c t p : List ℕ) → valid κ (join (join c t) p) ≡ behind κ (every (inner κ) c && every (inner κ) t) (valid κ (c ++ t)) p
   unfolding join
   valid-joined c t p =
-      valid-norm (norm (c ++ t) ++ p) ∙ valid-append (norm (c ++ t)) p
-      ∙ ap₂ (λ (i v : Bool). behind κ i v p) (inner-norm (c ++ t) ∙ every-append (inner κ) c t) (valid-norm (c ++ t))
+      valid-norm κ (norm (c ++ t) ++ p) ∙ valid-append (norm (c ++ t)) p
+      ∙ ap₂ (λ (i v : Bool). behind κ i v p) (inner-norm (c ++ t) ∙ every-append (inner κ) c t) (valid-norm κ (c ++ t))
 
 module _ (classes : List ℕ) (s : ℕ) where
   pub inner-any : s ≡ 0 → true ≡ inner (classBy classes) s

@@ -2,21 +2,16 @@
 use crate::order::good_set;
 use crate::symbols::good_symbols;
 use crate::validity::all_valid;
+use judged::ACCEPTED;
+use judged::BAD_KEY_PATHS;
+use judged::BAD_SYMBOLS;
+use judged::NOT_VALID;
 ghost use mathlib.Core.Path.{_≡_};
 ghost use mathlib.Core.Bool.{true};
 ghost use Rattle.meaning.specs.Records.{readKey, keyIn, isSome};
 ghost use Rattle.meaning.specs.Refusals.{firstOf};
 ghost use Rattle.shapes.specs.Classes.{keyTestsBy};
 ghost use Rattle.key_shapes.specs.Symbols.{limitsOf};
-
-// The refusal numbers of a key, and none.
-pub const SOUND: usize = 0;
-
-pub const SYMBOLS: usize = 4;
-
-pub const KEY_PATHS: usize = 5;
-
-pub const VALIDITY: usize = 6;
 
 // 4 before 5 before 6: the number of the first that the key gives, 0 if it gives none.
 pub fn key_refusal(
@@ -30,13 +25,13 @@ pub fn key_refusal(
     ensures { λ r. ⌜ r ≡ firstOf (keyTestsBy (now (classes .entry)) (limitsOf symbols «path_symbols» paths) (keyIn (now (body .entry)))) ⌝ }
 {
     if !good_symbols(body, classes, symbols, path_symbols) {
-        return SYMBOLS;
+        return BAD_SYMBOLS;
     }
     if !good_set(body, paths) {
-        return KEY_PATHS;
+        return BAD_KEY_PATHS;
     }
     if !all_valid(body, classes) {
-        return VALIDITY;
+        return NOT_VALID;
     }
-    SOUND
+    ACCEPTED
 }

@@ -1,13 +1,13 @@
 // "every key path p of s lands": where a profile key's key path, read along a line of the asked key, ends on a mark.
-use joins::same;
 use pattern_lines::line;
-use rule_tests::sets::holds_empty;
 use shapes::bodies::after_path;
 use shapes::bodies::lead_path;
 use shapes::keys::context;
 use shapes::keys::count;
+use shapes::keys::holds_empty;
 use shapes::keys::paths;
 use shapes::keys::target;
+use shapes::names::same_bytes;
 ghost use mathlib.Core.Path.{_≡_};
 ghost use mathlib.Core.Bool.{true};
 ghost use lib.ListN.{length};
@@ -50,7 +50,7 @@ fn lands_in(asked: &[u8], symbols: &[u8], path: &[u8], k: usize) -> bool
         return false;
     }
     let end = k + path.len();
-    if !same(&symbols[k..end], path) {
+    if !same_bytes(&symbols[k..end], path) {
         return false;
     }
     marked(asked, symbols, end)

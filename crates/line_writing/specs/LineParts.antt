@@ -1,18 +1,16 @@
 -- The bytes of a proof line as they are written: its head and fields, then the key body.
-use Prim.Native.Nat.{ℕ, zero, suc, _+_, _-_, _*_, _/_, _%_, _<_, _≤_}
-use mathlib.Core.Path.{_≡_, refl, sym, _∙_, ap, ap₂, subst}
-use mathlib.Core.Bool.{Bool, true, false, _&&_}
-use mathlib.Core.List.{List, [], _∷_, _++_, map, flatten, append-assoc}
+use Prim.Native.Nat.{ℕ, _+_, _/_, _%_, _<_, _≤_}
+use mathlib.Core.Path.{_≡_, refl, sym, _∙_, ap, ap₂}
+use mathlib.Core.Bool.{true}
+use mathlib.Core.List.{List, [], _∷_, _++_}
 use native.Mathlib.Omega.{arith}
-use lib.Dec.{leb}
-use lib.ListN.{length, take, drop, set, length-append, take-append-drop, drop-of-length-le}
-use lib.Seq.{length-take-le}
-use borrow.Author.Tests.{leb-true}
+use lib.ListN.{length, take, set, length-append}
 use Rattle.meaning.specs.Limits.{lineKind}
-use Rattle.meaning.specs.Lists.{isEmpty}
 use Rattle.meaning.specs.Paths.{norm}
 use Rattle.meaning.specs.Records.{wordBytes, recordBytes, pathBytes, keyBody, lineBytes}
-use Rattle.shapes.specs.Parts.{holdsPath, leadPath, afterPath, pathsEnd, pathsOf}
+use Rattle.shapes.specs.Parts.{pathsEnd, pathsOf}
+use Rattle.shapes.specs.KeyPaths.{paths-count}
+use Rattle.shapes.specs.PathBytes.{paths-bytes}
 use Rattle.theory_derive.specs.Written.{keyOf, twoLine}
 use Rattle.theory_derive.specs.Parts.{norm-length}
 use Rattle.writing.specs.Wrote.{Wrote, wrote-more, wrote-is, wrote-part, wrote-two}
@@ -43,43 +41,11 @@ pub record Sized (out end : List ℕ) (at : ℕ) (v : List ℕ) (many next : ℕ
   pub wrote : Wrote out end at v next
   pub size : next ≡ at + many
 
-pub and-first : (a b : Bool) → (a && b) ≡ true → a ≡ true
-and-first true b e = refl
-and-first false b e = e
-
-pub and-second : (a b : Bool) → (a && b) ≡ true → b ≡ true
-and-second true b e = e
-and-second false b e = absurd (let z : _≡_ {A = ℕ} 0 1 = cc in omega arith)
-
--- so many whole paths, to the end, are their own bytes
-pub path-bytes : (l : List ℕ) → holdsPath l ≡ true → pathBytes (leadPath l) ++ afterPath l ≡ l
-unfolding holdsPath leadPath afterPath pathBytes
-path-bytes [] e = absurd (let z : _≡_ {A = ℕ} 0 1 = cc in omega arith)
-path-bytes (n ∷ l) e =
-    ap₂ {C = List ℕ} (λ (k : ℕ) (r : List ℕ). k ∷ r) (length-take-le n l (leb-true n (length l) e)) (take-append-drop n l)
-
-pub empty-is : (l : List ℕ) → isEmpty l ≡ true → [] ≡ l
-unfolding isEmpty
-empty-is [] e = refl
-empty-is (x ∷ l) e = absurd (let z : _≡_ {A = ℕ} 0 1 = cc in omega arith)
-
-pub paths-bytes : (count : ℕ) (l : List ℕ) → pathsEnd count l ≡ true → flatten (map pathBytes (pathsOf count l)) ≡ l
-unfolding pathsEnd pathsOf flatten
-paths-bytes zero l e = empty-is l e
-paths-bytes (suc count) l e =
-    ap (λ (r : List ℕ). pathBytes (leadPath l) ++ r) (paths-bytes count (afterPath l) (and-second (holdsPath l) _ e))
-    ∙ path-bytes l (and-first (holdsPath l) _ e)
-
-pub paths-number : (count : ℕ) (l : List ℕ) → length (pathsOf count l) ≡ count
-unfolding pathsOf
-paths-number zero l = refl
-paths-number (suc count) l = ap suc (paths-number count (afterPath l))
-
 module _ (context target : List ℕ) (count : ℕ) (paths : List ℕ) where
   key-part-is : pathsEnd count paths ≡ true → keyPart (norm context) (norm target) count paths ≡ keyBody (keyOf context target (pathsOf count paths))
   unfolding keyPart keyBody keyOf
   key-part-is e =
-      ap₂ (λ (n : ℕ) (l : List ℕ). pathBytes (norm context) ++ (pathBytes (norm target) ++ (n ∷ l))) (sym (paths-number count paths))
+      ap₂ (λ (n : ℕ) (l : List ℕ). pathBytes (norm context) ++ (pathBytes (norm target) ++ (n ∷ l))) (sym (paths-count count paths))
       (sym (paths-bytes count paths e))
 
   key-part-length : length (keyPart (norm context) (norm target) count paths) ≡ length (norm context) + length (norm target) + length paths + 3

@@ -1,26 +1,30 @@
 // The bytes of one proof line, written into a lent buffer from a place on: document 01, "Records", kind 4. What stands before and behind stays.
 use shapes::bodies::LINE_KIND;
 use shapes::fields::BYTE;
+use shapes::limits::KEY_IN_LINE;
+use shapes::limits::LINE_SYMBOLS;
 use writing::put;
 ghost use mathlib.Core.Path.{_≡_};
-ghost use mathlib.Core.Bool.{Bool, true};
-ghost use mathlib.Core.List.{List, [], _∷_, _++_};
-ghost use Prim.Native.Nat.{ℕ, _+_, _<_, _≤_};
+ghost use mathlib.Core.List.{[], _∷_};
+ghost use Prim.Native.Nat.{_+_, _<_, _≤_};
 ghost use lib.ListN.{length};
 ghost use Rattle.meaning.specs.Paths.{norm};
 ghost use Rattle.meaning.specs.Records.{wordBytes, pathBytes, lineBytes};
-ghost use Rattle.shapes.specs.Parts.{pathsEnd, pathsOf};
+ghost use Rattle.shapes.specs.Parts.{pathsOf};
 ghost use Rattle.theory_derive.specs.Written.{keyOf, twoLine};
 ghost use Rattle.writing.specs.Wrote.{Wrote};
 ghost use Rattle.line_writing.specs.Normals.{doubledAny};
 ghost use Rattle.line_writing.specs.LineParts.{Sized, lineHead, keyPart, LineFits, WroteLine};
 
-// The head of a record, the rule and two premises.
-const HEAD_AND_FIELDS: usize = 9;
 // The two lengths and the count inside a key body.
 const KEY_LENGTHS: usize = 3;
-// "In a proof line, C and T may have 32 symbols"
-const LINE_PATH: usize = 32;
+
+// "rule (1), first premise (2), second premise (2)"
+pub struct Head {
+    pub rule: usize,
+    pub first: usize,
+    pub second: usize,
+}
 
 // A number that fits a byte.
 pub fn put_number(out: &mut [u8], at: usize, n: usize) -> usize
@@ -81,23 +85,16 @@ pub fn put_normal(out: &mut [u8], at: usize, path: &[u8]) -> usize
     next
 }
 
-// The record's length and kind, "rule (1), first premise (2), second premise (2)"
-fn put_head(
-    out: &mut [u8],
-    at: usize,
-    size: usize,
-    rule: usize,
-    first: usize,
-    second: usize,
-) -> usize
-    requires { ⌜ (rule < 256) × (at + 9 ≤ length (now out)) ⌝ }
-    ensures { λ r. ⌜ Sized (now (out .entry)) (now (out .exit)) at (lineHead size rule first second) 9 r ⌝ }
+// The record's length and kind, and its fields before the key.
+pub fn put_head(out: &mut [u8], at: usize, size: usize, head: Head) -> usize
+    requires { ⌜ (head .rule < 256) × (at + 9 ≤ length (now out)) ⌝ }
+    ensures { λ r. ⌜ Sized (now (out .entry)) (now (out .exit)) at (lineHead size (head .rule) (head .first) (head .second)) 9 r ⌝ }
 {
     let kind_at = put_word(out, at, size);
     let rule_at = put_word(out, kind_at, LINE_KIND);
-    let first_at = put_number(out, rule_at, rule);
-    let second_at = put_word(out, first_at, first);
-    put_word(out, second_at, second)
+    let first_at = put_number(out, rule_at, head.rule);
+    let second_at = put_word(out, first_at, head.first);
+    put_word(out, second_at, head.second)
 }
 
 // "length and symbols of C; of T; count of key paths; length and symbols of each"
@@ -122,22 +119,20 @@ fn put_key(
 pub fn write_line(
     out: &mut [u8],
     at: usize,
-    rule: usize,
-    first: usize,
-    second: usize,
+    head: Head,
     context: &[u8],
     target: &[u8],
     count: usize,
     paths: &[u8],
 ) -> usize
-    requires { ⌜ LineFits (now out) at rule (now context) (now target) count (now paths) ⌝ }
-    ensures { λ r. ⌜ WroteLine (now (out .entry)) (now (out .exit)) at (lineBytes (twoLine rule first second (keyOf (now (context .entry)) (now (target .entry)) (pathsOf count (now (paths .entry)))))) r ⌝ }
+    requires { ⌜ LineFits (now out) at (head .rule) (now context) (now target) count (now paths) ⌝ }
+    ensures { λ r. ⌜ WroteLine (now (out .entry)) (now (out .exit)) at (lineBytes (twoLine (head .rule) (head .first) (head .second) (keyOf (now (context .entry)) (now (target .entry)) (pathsOf count (now (paths .entry)))))) r ⌝ }
 {
-    let mut c = [0u8; LINE_PATH];
+    let mut c = [0u8; LINE_SYMBOLS];
     let c_end = put_normal(&mut c, 0, context);
-    let mut t = [0u8; LINE_PATH];
+    let mut t = [0u8; LINE_SYMBOLS];
     let t_end = put_normal(&mut t, 0, target);
-    let size = HEAD_AND_FIELDS + KEY_LENGTHS + c_end + t_end + paths.len();
-    let next = put_head(out, at, size, rule, first, second);
+    let size = KEY_IN_LINE + KEY_LENGTHS + c_end + t_end + paths.len();
+    let next = put_head(out, at, size, head);
     put_key(out, next, &c[..c_end], &t[..t_end], count, paths)
 }

@@ -37,6 +37,7 @@ use Rattle.shapes.specs.Classes.{Tabled, classBy, class-tabled}
 use Rattle.shapes.specs.Tables.{bytes-key}
 use Rattle.records.specs.Keys.{lineTestsBy}
 use Rattle.records.specs.Agree.{line-agrees}
+use Rattle.records.specs.Accepted.{Given}
 use Rattle.judged.specs.declared.Judged.{Judged}
 use Rattle.judged.specs.declared.Judged.the-variants.{Sound, Refused}
 use Rattle.rule_tests.specs.Parts.{line-key}
@@ -48,16 +49,6 @@ use Rattle.lines.specs.Following.{still-below, new-did-follow, below-mor
 unfoldable pub checkedAnswer : Judged → Answer
 checkedAnswer Sound = plain accepted
 checkedAnswer (Refused number place) = refusedBy (record { number = number; input = 3; place = place }) []
-
--- what the check is given: an accepted profile, its edition, how many records stand before its keys and how many keys it has, its classes, an
--- accepted question
-pub record Given (profile : List ℕ) (second : Bool) (before keys : ℕ) (question classes : List ℕ) : Type 0 where
-  pub acceptedProfile : profileRefusal profile .number ≡ 0
-  pub edition : second ≡ secondIn profile
-  pub beforeKeys : before ≡ firstEntry profile + length (labelsIn profile)
-  pub keyCount : keys ≡ length (keysIn profile)
-  pub tabled : Tabled (labelsIn profile) classes
-  pub acceptedQuestion : questionRefusal (labelsIn profile) question .number ≡ 0
 
 pub given-labels : {profile : List ℕ} {second : Bool} {before keys : ℕ} {question classes : List ℕ} → Given profile second before keys question classes → GoodLabels (labelsIn profile)
 given-labels {profile} g = accepted-labels profile (g .acceptedProfile)
@@ -112,7 +103,7 @@ sofar-start single labels keys proof small =
     }
 
 -- one line, accepted up to 6
-line-record : (labels : List Label) (lines : List Line) (l : List ℕ) → LineAccepted labels lines l → LineRecord l
+pub line-record : (labels : List Label) (lines : List Line) (l : List ℕ) → LineAccepted labels lines l → LineRecord l
 unfolding readLine
 line-record labels lines l a =
     let ends = ends-line l (a .isWhole) (a .kind) in
@@ -281,9 +272,6 @@ given-is {question = question} g =
     record { long = q .isWhole .long; within = q .isWhole .within; shape = ends-key question (q .isWhole) (q .kind) }
 
 module _ {question : List ℕ} (q : IsQuestion question) where
-  pub question-head : 0 + 1 < length question
-  question-head = omega (arith, q .long, q .within)
-
   pub question-start : {stop : ℕ} → stop ≡ word question 0 → 4 ≤ stop
   unfolding recordLength
   question-start e = omega (arith, q .long)

@@ -1,13 +1,13 @@
 -- Lines that follow, when a list of lines grows at its end.
-use Prim.Native.Nat.{ℕ, zero, suc, _<_, _≤_}
-use mathlib.Core.Path.{_≡_, refl, sym, subst, _∙_}
+use Prim.Native.Nat.{ℕ, suc, _<_, _≤_}
+use mathlib.Core.Path.{_≡_, sym, subst, _∙_}
 use mathlib.Core.Logic.{_⊎_, inl, inr}
 use mathlib.Core.Bool.{Bool, true, false, not}
 use mathlib.Core.List.{List, [], _∷_, _++_}
-use mathlib.Core.Option.{some, Option·some-injective}
+use mathlib.Core.Option.{Option·some-injective}
 use native.Mathlib.Omega.{arith}
 use native.Mathlib.Nat.{eq-or-lt-of-le, le-of-suc-le-suc}
-use lib.ListN.{length, getElem?}
+use lib.ListN.{length}
 use lib.Seq.{take-append-le, take-append-seam}
 use borrow.Author.Tests.{not-true, not-false}
 use Rattle.meaning.specs.Limits.{inProof}
@@ -18,15 +18,7 @@ use Rattle.meaning.specs.Rules.{Line, FollowsIn, lineKeys, FollowsAt, FollowsBe
 use Rattle.theory_paths.specs.Good.{GoodLabels, GoodKey}
 use Rattle.theory_paths.specs.Bools.{of-true, of-false}
 use Rattle.theory_lines.specs.EditionTest.{followsInTest, test-follows-in, follows-in-test}
-
-pub getElem-append : {A : Type 0} (xs ys : List A) (i : ℕ) → i < length xs → getElem? (xs ++ ys) i ≡ getElem? xs i
-getElem-append [] ys i h = absurd (omega arith)
-getElem-append (x ∷ xs) ys zero h = refl
-getElem-append (x ∷ xs) ys (suc i) h = getElem-append xs ys i (omega arith)
-
-pub getElem-seam : {A : Type 0} (xs : List A) (y : A) (ys : List A) → getElem? (xs ++ (y ∷ ys)) (length xs) ≡ some y
-getElem-seam [] y ys = refl
-getElem-seam (x ∷ xs) y ys = getElem-seam xs y ys
+use Rattle.theory_records.specs.Places.{at-seam, at-left}
 
 pub good-keys : {labels : List Label} {lines : List Line} → Each (λ (x : Line). GoodKey labels inProof (x .key)) lines → Each (GoodKey labels inProof) (lineKeys lines)
 unfolding lineKeys
@@ -38,7 +30,7 @@ module _ (single : ℕ → Bool) (labels : List Label) (keys : List Key) where
   still-follows base more i h f =
       record {
         line = f .line;
-        stands = getElem-append base more i h ∙ f .stands;
+        stands = at-left base more i h ∙ f .stands;
         follows =
             subst (λ (l : List Line). FollowsIn single labels keys (lineKeys l) (f .line)) (sym (take-append-le i base more (omega arith))) (f .follows);
       }
@@ -52,14 +44,14 @@ module _ (single : ℕ → Bool) (labels : List Label) (keys : List Key) where
   new-follows base line more f =
       record {
         line = line;
-        stands = getElem-seam base line more;
+        stands = at-seam base line more;
         follows = subst (λ (l : List Line). FollowsIn single labels keys (lineKeys l) line) (sym (take-append-seam base (line ∷ more))) f;
       }
 
   pub new-did-follow : (base : List Line) (line : Line) (more : List Line) → FollowsAt single labels keys (base ++ (line ∷ more)) (length base)
       → FollowsIn single labels keys (lineKeys base) line
   new-did-follow base line more f =
-      let e : f .line ≡ line = Option·some-injective _ _ (sym (f .stands) ∙ getElem-seam base line more) in
+      let e : f .line ≡ line = Option·some-injective _ _ (sym (f .stands) ∙ at-seam base line more) in
       subst (λ (x : Line). FollowsIn single labels keys (lineKeys base) x) e
       (subst (λ (l : List Line). FollowsIn single labels keys (lineKeys l) (f .line)) (take-append-seam base (line ∷ more)) (f .follows))
 

@@ -1,11 +1,11 @@
 -- The lines where the code finds them are the lines that the walk reads.
-use Prim.Native.Nat.{ℕ, zero, suc, _≤_, _<_}
+use Prim.Native.Nat.{ℕ, zero, suc, _<_}
 use mathlib.Core.Path.{_≡_, refl, sym, ap, _∙_}
 use mathlib.Core.List.{List, [], _∷_, _++_}
 use native.Mathlib.Omega.{arith}
-use lib.ListN.{length, take, drop}
+use lib.ListN.{length, drop}
 use Rattle.meaning.specs.Paths.{Label}
-use Rattle.meaning.specs.Rules.{Line, lineKeys}
+use Rattle.meaning.specs.Rules.{Line}
 use Rattle.meaning.specs.Records.{recordLength, recordBody, readLine}
 use Rattle.meaning.specs.Refusals.{firstOf, lineTests, proofWalked}
 use Rattle.meaning.specs.Operations.{recordsFrom}
@@ -19,12 +19,6 @@ pub lines-more : (n : ℕ) (l : List ℕ) → linesFrom (suc n) l ≡ linesFrom 
 unfolding linesFrom recordsFrom
 lines-more zero l = refl
 lines-more (suc n) l = ap (λ (ls : List Line). readLine (recordBody l) ∷ ls) (lines-more n (drop (recordLength l) l))
-
-pub lines-take : (n m : ℕ) (l : List ℕ) → n ≤ m → take n (linesFrom m l) ≡ linesFrom n l
-unfolding linesFrom
-lines-take zero m l h = refl
-lines-take (suc n) zero l h = absurd (omega arith)
-lines-take (suc n) (suc m) l h = ap (λ (ls : List Line). readLine (recordBody l) ∷ ls) (lines-take n m (drop (recordLength l) l) (omega arith))
 
 record ReadAt (bytes : List ℕ) (n : ℕ) (lines : List Line) (rest : List ℕ) : Type 0 where
   here : rest ≡ recordsFrom n bytes
@@ -58,9 +52,3 @@ pub lines-are : (labels : List Label) (bytes : List ℕ) → linesFrom (length (
 lines-are labels bytes =
     let held = read-stop labels bytes .held in
     ap (λ (n : ℕ). linesFrom n bytes) (sym (held .counted)) ∙ held .are
-
--- the keys of the lines before line n
-pub earlier-are : (labels : List Label) (bytes : List ℕ) (n : ℕ) → n ≤ length (proofWalked labels bytes .state)
-    → lineKeys (linesFrom n bytes) ≡ lineKeys (take n (proofWalked labels bytes .state))
-earlier-are labels bytes n h =
-    ap lineKeys (sym (lines-take n (length (proofWalked labels bytes .state)) bytes h) ∙ ap (take n) (lines-are labels bytes))

@@ -2,25 +2,23 @@
 // refusal number, then whether it follows (9), before the next is looked at; then 10. The proof's size (7) is the caller's to test.
 use crate::follow::follows;
 use crate::follow::line_key;
-use joins::same;
 use judged::ACCEPTED;
 use judged::Judged;
+use judged::OTHER_END;
+use judged::UNFOLLOWED;
 use places::record_at;
 use records::keys::judge_line;
 use shapes::fields::HEAD_BYTES;
 use shapes::fields::word;
+use shapes::names::same_bytes;
 ghost use Prim.Native.Nat.{_-_};
 ghost use lib.ListN.{getElem?};
 ghost use Rattle.meaning.specs.Rules.{lineKeys};
 ghost use Rattle.meaning.specs.Refusals.{questionIn, proofWalked};
 ghost use Rattle.meaning.specs.Operations.{ProofJudged, singleIn, labelsIn, keysIn};
 ghost use Rattle.lines.specs.Premises.{linesFrom, Earlier};
-ghost use Rattle.lines.specs.Checking.{Given, IsQuestion, LastTold, checkedAnswer};
-
-// 9: "a proof line does not follow"; 10: "proof empty (record 0), or its last key is not the question (that line)"
-const UNFOLLOWED: usize = 9;
-
-const OTHER_END: usize = 10;
+ghost use Rattle.records.specs.Accepted.{Given};
+ghost use Rattle.lines.specs.Checking.{IsQuestion, LastTold, checkedAnswer};
 
 // "the last line's key is the question"
 fn last_is(proof: &[u8], lines: usize, question: &[u8]) -> Judged
@@ -33,7 +31,7 @@ fn last_is(proof: &[u8], lines: usize, question: &[u8]) -> Judged
     let last = lines - 1;
     let key = line_key(proof, last);
     let end = word(question, 0);
-    if same(key, &question[HEAD_BYTES..end]) {
+    if same_bytes(key, &question[HEAD_BYTES..end]) {
         return Judged::Sound;
     }
     Judged::Refused(OTHER_END, last)

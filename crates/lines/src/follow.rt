@@ -1,6 +1,5 @@
 // Whether one line follows: "Rule 0 cites key number *first premise* of the profile. In the others, premises are earlier line numbers; an
 // unused premise field is 65535."
-use joins::same;
 use places::record_at;
 use rule_tests::rules::context_path;
 use rule_tests::rules::context_target;
@@ -16,11 +15,23 @@ use shapes::fields::HEAD_BYTES;
 use shapes::fields::wide;
 use shapes::fields::word;
 use shapes::keys::target;
-ghost use Prim.Native.Nat.{_<_};
+use shapes::limits::CITATION;
+use shapes::limits::CONTEXT_PATH;
+use shapes::limits::CONTEXT_TARGET;
+use shapes::limits::EPSILON;
+use shapes::limits::INTERACTION;
+use shapes::limits::KEY_IN_LINE;
+use shapes::limits::NO_NUMBER;
+use shapes::limits::ONE_ATTRIBUTE;
+use shapes::limits::PREFIX_EPSILON;
+use shapes::limits::SUBNODES;
+use shapes::limits::SUBNODES_EPSILON;
+use shapes::limits::SUPERKEY;
+use shapes::limits::TARGET_PATH;
+use shapes::names::same_bytes;
 ghost use mathlib.Core.Path.{_≡_};
-ghost use mathlib.Core.Bool.{true, _&&_};
-ghost use lib.ListN.{length, drop, getElem?};
-ghost use Rattle.meaning.specs.Lists.{isEmpty};
+ghost use mathlib.Core.Bool.{true};
+ghost use lib.ListN.{drop};
 ghost use Rattle.meaning.specs.Records.{readKey, keyIn, isSome, readLine, recordBody};
 ghost use Rattle.meaning.specs.Rules.{lineKeys};
 ghost use Rattle.meaning.specs.Operations.{recordsFrom};
@@ -32,36 +43,10 @@ ghost use Rattle.rule_tests.specs.Parts.{LineKey, LineKeys};
 ghost use Rattle.theory_records.specs.KeyPlaces.{keysFrom, KeyRecords};
 ghost use Rattle.lines.specs.Premises.{linesFrom, LineRecord, Earlier, LineBody, oneTest, cited, byOne, byTwo};
 
-// "an unused premise field is 65535"
-const NO_NUMBER: usize = 65535;
-// Where the fields of a line stand in its body, and its key in its record.
-const FIRST_AT: usize = 1;
+// Where the premises of a line stand in its body.
+pub const FIRST_AT: usize = 1;
 
-const SECOND_AT: usize = 3;
-
-const KEY_IN_LINE: usize = 9;
-// The rules' numbers.
-const CITATION: usize = 0;
-
-const EPSILON: usize = 1;
-
-const PREFIX_EPSILON: usize = 2;
-
-const SUPERKEY: usize = 3;
-
-const SUBNODES: usize = 4;
-
-const CONTEXT_PATH: usize = 5;
-
-const TARGET_PATH: usize = 6;
-
-const CONTEXT_TARGET: usize = 7;
-
-const SUBNODES_EPSILON: usize = 8;
-
-const INTERACTION: usize = 9;
-
-const ONE_ATTRIBUTE: usize = 10;
+pub const SECOND_AT: usize = 3;
 
 // "Rule 0 cites key number *first premise* of the profile": equal keys are equal bodies.
 fn cites(part: &[u8], keys: usize, first: usize, k: &[u8]) -> bool
@@ -73,7 +58,7 @@ fn cites(part: &[u8], keys: usize, first: usize, k: &[u8]) -> bool
     }
     let rest = record_at(part, first);
     let end = word(rest, 0);
-    same(&rest[HEAD_BYTES..end], k)
+    same_bytes(&rest[HEAD_BYTES..end], k)
 }
 
 // The key body of line n.

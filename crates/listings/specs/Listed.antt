@@ -1,10 +1,10 @@
--- One law for each return of the listing: what the readers and the writer found, put into the laws of `theory_checks`.
+-- One law for each return of the listing: what the readers and the writer found, put into the laws of `Listings`.
 use Prim.Native.Nat.{ℕ, _≤_, _<_}
-use mathlib.Core.Path.{_≡_, refl, sym, _∙_, ap, ap₂, subst}
+use mathlib.Core.Path.{_≡_, sym, _∙_, ap, ap₂, subst}
 use mathlib.Core.Bool.{Bool}
-use mathlib.Core.List.{List, [], _∷_, _++_}
+use mathlib.Core.List.{List}
 use native.Mathlib.Omega.{arith}
-use lib.ListN.{length, drop}
+use lib.ListN.{length}
 use Rattle.meaning.specs.Paths.{Label}
 use Rattle.meaning.specs.Refusals.{sound, treeRefusal, nodesIn}
 use Rattle.meaning.specs.Refusals as Table
@@ -18,25 +18,24 @@ use Rattle.answers.specs.declared.Outcome.{Outcome}
 use Rattle.answers.specs.declared.Outcome.the-variants as O
 use Rattle.answers.specs.Cases.{meant, outcomeOf, usedOf}
 use Rattle.answers.specs.Outcomes.{outcome-refused, outcome-fine}
-use Rattle.records.specs.ProfileWalks.{ProfileSays}
-use Rattle.theory_operations.specs.Refusing.{sound-number}
+use Rattle.theory_operations.specs.Refusing.{sound-number, unless-room}
 use Rattle.theory_records.specs.Profiles.{accepted-labels}
-use Rattle.theory_checks.specs.Listings.{list-small, list-profile, list-tree, list-block}
-use Rattle.theory_files.specs.Files.{class-same, file-table, tree-bytes}
+use Rattle.listings.specs.Listings.{list-small, list-tree, list-block}
+use Rattle.tree_nodes.specs.Files.{class-same, file-table, tree-bytes}
 use Rattle.tree_nodes.specs.FileTable.{fileTable, TreeBytes}
 use Rattle.writing.specs.Wrote.{Wrote, wrote-front}
 use Rattle.tree_listing.specs.Lines.{blockOf, block-is}
-use Rattle.checks.specs.Found.{ReadyIn, Tables, refused-is, refused-names}
+use Rattle.acceptance.specs.Taken.{ProfileTaken, ReadyIn, Tables, profile-stops}
 
 pub small-lists : (profile tree : List ℕ) (k : ℕ) (buffer : List ℕ) (r : Refusal) → length buffer < 65536
     → meant r ≡ record { number = 14; input = 4; place = 0 } → Lists profile tree k buffer (refusedBy (meant r) buffer)
 small-lists profile tree k buffer r h e =
     subst (λ (x : Table.Refusal). Lists profile tree k buffer (refusedBy x buffer)) (sym e) (list-small profile tree k buffer h)
 
-pub list-stops : {profile classes : List ℕ} {judged : Judged} {second : Bool} {labels keys : ℕ} → ProfileSays profile judged classes second labels keys → {o : Outcome}
-    → o ≡ outcomeOf 1 judged → {r : Refusal} (tree : List ℕ) (k : ℕ) (buffer : List ℕ) → 65536 ≤ length buffer → o ≡ O.Refused r
-    → Lists profile tree k buffer (refusedBy (meant r) buffer)
-list-stops {profile} says e {r} tree k buffer h x = list-profile profile tree k buffer h (meant r) (refused-is says e x) (refused-names says e x)
+pub list-stops : {profile classes : List ℕ} {o : Outcome} {second : Bool} {before keys : ℕ} → ProfileTaken profile o classes second before keys
+    → {r : Refusal} (tree : List ℕ) (k : ℕ) (buffer : List ℕ) → 65536 ≤ length buffer → o ≡ O.Refused r → Lists profile tree k buffer (refusedBy (meant r) buffer)
+unfolding Lists
+list-stops taken tree k buffer h x = unless-room _ buffer _ _ h (profile-stops taken _ buffer _ x)
 
 module _ (tree classes : List ℕ) (second : Bool) (judged : Judged)
     (says : (labels : List Label) → Tabled labels classes → refusalOf 3 judged ≡ treeRefusal second labels tree)

@@ -1,19 +1,18 @@
 // "list a block of a tree": profile as input 1, tree as input 3, block number, answer buffer.
+use acceptance::accept_profile;
 use answers::ANSWER_BYTES;
 use answers::Listing;
 use answers::Outcome;
-use answers::PROFILE;
 use answers::TREE_OR_PROOF;
 use answers::of_input;
 use answers::small_answer;
-use records::profile::read_profile;
 use tree_listing::put_block;
 use tree_records::tree::read_tree;
 ghost use Prim.Native.Nat.{ℕ, _≤_};
 ghost use mathlib.Core.List.{List};
 ghost use lib.ListN.{length};
 ghost use Rattle.meaning.specs.Operations.{Lists};
-ghost use Rattle.checks.specs.Found.{ReadyIn, Tables};
+ghost use Rattle.acceptance.specs.Taken.{ReadyIn, Tables};
 ghost use Rattle.answers.specs.Cases.{listingAnswer};
 
 // The answer for a tree under an accepted profile, of which only the class table and the edition are needed.
@@ -42,11 +41,10 @@ pub fn list_block(profile: &[u8], tree: &[u8], block: usize, answer: &mut [u8]) 
     if answer.len() < ANSWER_BYTES {
         return Listing::Refused(small_answer());
     }
-    let read = read_profile(profile);
-    let judged = read.judged;
+    let read = accept_profile(profile);
+    let outcome = read.outcome;
     let classes = read.classes;
     let second = read.second;
-    let outcome = of_input(judged, PROFILE);
     match outcome {
         Outcome::Refused(refusal) => Listing::Refused(refusal),
         Outcome::Fine => list_tree(tree, block, answer, &classes, second),

@@ -5,10 +5,9 @@ use mathlib.Core.Bool.{true}
 use mathlib.Core.List.{List, [], _∷_, _++_}
 use native.Mathlib.Omega.{arith}
 use lib.ListN.{length, getD, set, take, drop, length-append, take-append-drop}
-use lib.Seq.{slice, take-at, drop-append-le, length-take-le}
+use lib.Seq.{slice, drop-append-le, length-take-le}
 use borrow.Rule.Slice.PartAt.{part-to-end}
 use borrow.Author.Count.{below-more}
-use borrow.Author.Tests.{le-leb}
 use Rattle.meaning.specs.Keys.{Key}
 use Rattle.meaning.specs.Records.{readKey, keyIn, isSome, pathBytes}
 use Rattle.meaning.specs.Pattern.{tOf}
@@ -16,6 +15,7 @@ use Rattle.theory_derive.specs.Spots.{chainOf, branchOf, lineOf}
 use Rattle.theory_derive.specs.Lines.{line-length}
 use Rattle.shapes.specs.Parts.{holdsPath, leadPath, afterPath}
 use Rattle.shapes.specs.KeyPaths.{AtPath, at-holds, at-lead, at-next}
+use Rattle.shapes.specs.PathBytes.{holds-front as read-holds, lead-front as read-lead}
 use Rattle.pattern_lines.specs.Copies.{Copied, Room, copied-one, copied-then, copied-before, copied-there}
 
 -- 01: "a path of 8 symbols and 4 key paths in profile and question"
@@ -74,14 +74,6 @@ behind l a w h e =
     ap (drop a) (sym (take-append-drop (a + length w) l))
     ∙ drop-append-le a (take (a + length w) l) (drop (a + length w) l) (omega (arith, length-take-le (a + length w) l h))
     ∙ ap (λ (x : List ℕ). x ++ drop (a + length w) l) e
-
-read-holds : (line rest : List ℕ) → holdsPath (pathBytes line ++ rest) ≡ true
-unfolding holdsPath pathBytes
-read-holds line rest = le-leb (length line) (length (line ++ rest)) (omega (arith, length-append line rest))
-
-read-lead : (line rest : List ℕ) → leadPath (pathBytes line ++ rest) ≡ line
-unfolding leadPath pathBytes
-read-lead line rest = take-at line rest (length line) refl
 
 bytes-length : (p : List ℕ) → length (pathBytes p) ≡ suc (length p)
 unfolding pathBytes

@@ -9,7 +9,6 @@ use shapes::keys::target;
 ghost use Prim.Native.Nat.{_+_, _*_};
 ghost use mathlib.Core.Path.{_≡_};
 ghost use mathlib.Core.List.{_++_};
-ghost use lib.ListN.{length};
 ghost use Rattle.meaning.specs.Records.{keyIn, pathBytes};
 ghost use Rattle.theory_derive.specs.Spots.{chainOf};
 ghost use Rattle.pattern_lines.specs.Copies.{Copied, Room};

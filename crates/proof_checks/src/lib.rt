@@ -1,15 +1,12 @@
 // "check a proof": profile, question and proof as inputs 1, 2 and 3. No `requires`: it takes arbitrary bytes and refuses by the numbered table.
+use acceptance::accept_both;
 use answers::Checking;
 use answers::Outcome;
-use answers::PROFILE;
-use answers::QUESTION;
 use answers::Refusal;
 use answers::TREE_OR_PROOF;
 use answers::of_input;
 use judged::TOO_LARGE;
 use lines::check::check_lines;
-use records::profile::read_profile;
-use records::question::read_question;
 ghost use Rattle.meaning.specs.Operations.{ChecksProof};
 ghost use Rattle.answers.specs.Cases.{checkingAnswer};
 
@@ -21,16 +18,9 @@ const PROOF_BYTES: usize = 65536;
 pub fn check_proof(profile: &[u8], question: &[u8], proof: &[u8]) -> Checking
     ensures { λ r. ⌜ ChecksProof (now (profile .entry)) (now (question .entry)) (now (proof .entry)) (checkingAnswer r) ⌝ }
 {
-    let read = read_profile(profile);
-    let judged = read.judged;
-    let first = of_input(judged, PROFILE);
-    if let Outcome::Refused(refusal) = first {
-        return Checking::Refused(refusal);
-    }
-    let classes = read.classes;
-    let asked = read_question(question, &classes);
-    let second = of_input(asked, QUESTION);
-    if let Outcome::Refused(refusal) = second {
+    let read = accept_both(profile, question);
+    let outcome = read.outcome;
+    if let Outcome::Refused(refusal) = outcome {
         return Checking::Refused(refusal);
     }
     if PROOF_BYTES < proof.len() {
@@ -40,6 +30,7 @@ pub fn check_proof(profile: &[u8], question: &[u8], proof: &[u8]) -> Checking
             place: 0,
         });
     }
+    let classes = read.classes;
     let newer = read.second;
     let before = read.before;
     let keys = read.keys;

@@ -1,10 +1,10 @@
 -- The steps that the search remembers may be written, and what is written is theory_derive's proof.
-use Prim.Native.Nat.{ℕ, zero, suc, _+_, _-_, _<_, _≤_}
+use Prim.Native.Nat.{ℕ, zero, suc, _+_, _<_, _≤_}
 use mathlib.Core.Path.{_≡_, refl, sym, _∙_, ap, ap₂, subst}
 use mathlib.Core.Logic.{_⊎_, inl, inr}
 use mathlib.Core.Bool.{true}
-use mathlib.Core.List.{List, [], _∷_, _++_, map, flatten}
-use mathlib.Core.Option.{some, Option·none-ne-some, Option·some-injective}
+use mathlib.Core.List.{List, _∷_, _++_, map, flatten}
+use mathlib.Core.Option.{some}
 use native.Mathlib.Omega.{arith}
 use lib.ListN.{length, getD, getElem?, drop}
 use Rattle.meaning.specs.Limits.{inProfile}
@@ -19,7 +19,7 @@ use Rattle.theory_paths.specs.Good.{GoodKey, context-normal, target-normal}
 use Rattle.theory_paths.specs.Normal.{norm-of-normal}
 use Rattle.theory_derive.specs.Logic.{less-or, found-below, found-mem}
 use Rattle.theory_derive.specs.Spots.{Taken as Step, Fires, Chain, begun, taken}
-use Rattle.theory_derive.specs.Accept.{turns}
+use Rattle.theory_derive.specs.Accept.{turns, getD-found}
 use Rattle.theory_derive.specs.Written.{stepLines, takenLines, linesFrom, firstLine, proofLines}
 use Rattle.writing.specs.Wrote.{written}
 use Rattle.step_writing.specs.Fits.{KeyBody, key-fits}
@@ -72,11 +72,6 @@ each-below Q steps (suc count) e n h = go (less-or n count) (each-below Q steps 
     go (inr l) r =
         let z : count ≡ n = omega arith in
         subst (λ (m : ℕ). Q (stepOf (getD steps m (record { key = 0; node = 0; branch = 0; spot = 0 })))) z (each-first e)
-
-getD-some : (keys : List Key) (n : ℕ) {k : Key} → getElem? keys n ≡ some k → getD keys n noKey ≡ k
-getD-some [] n e = absurd (Option·none-ne-some _ e)
-getD-some (x ∷ keys) zero e = Option·some-injective _ _ e
-getD-some (x ∷ keys) (suc n) e = getD-some keys n e
 
 good-normal : (declared : List Label) (k : Key) → GoodKey declared inProfile k → KeyNormal k
 good-normal declared k g =
@@ -147,7 +142,7 @@ module _ {declared : List Label} {profile : List ℕ} {labels : ℕ} {keys : Lis
       cited-each : {ss : List Step} → Each (Fired keys (keyIn body)) ss → Each (λ (t : Step). getD keys (t .key) noKey ≡ citedKey profile (labels + t .key)) ss
       cited-each end = end
       cited-each (also {x = t} f e) =
-          also (getD-some keys (t .key) (g .are (t .key) (found-below keys (t .key) (f .fires .cited)))) (cited-each e)
+          also (getD-found keys (t .key) (g .are (t .key) (found-below keys (t .key) (f .fires .cited)))) (cited-each e)
 
   pub proof-bytes-are : {out exit : List ℕ} {used : ℕ} → WroteLines out exit 0 (proofBy profile labels (keyIn body) u (stepsBelow steps count)) used
       → (exit ≡ flatten (map lineBytes (proofLines keys (keyIn body) u (stepsBelow steps count))) ++ drop used out)

@@ -157,9 +157,6 @@ module _ {body C X : List ℕ} (k : KeyBody body) (c : C ≡ keyIn body .context
 
 -- ---- the loop, last step first
 
-none : Taken
-none = record { key = 0; node = 0; branch = 0; spot = 0 }
-
 pub record Writing (profile : List ℕ) (labels : ℕ) (asked : Key) (steps : List Taken) (count : ℕ) (start out : List ℕ) (from at lines left : ℕ) : Type 0 where
   pub done : List Line
   pub wrote : WroteLines start out from done at

@@ -3,15 +3,19 @@ use places::front_length;
 use places::record_at;
 use shapes::fields::HEAD_BYTES;
 use shapes::keys::context;
+use shapes::keys::holds_empty;
 use shapes::keys::path;
 use shapes::keys::target;
+use shapes::limits::CONTEXT_TARGET;
+use shapes::limits::EPSILON;
+use shapes::limits::NO_NUMBER;
+use shapes::limits::ONE_ATTRIBUTE;
 use step_writing::branch::write_empty;
 use step_writing::branch::write_end;
 use step_writing::chain::write_chain;
 use step_writing::chain::write_opening;
-use step_writing::single::CONTEXT_TARGET;
-use step_writing::single::NO_NUMBER;
-use step_writing::single::holds_empty;
+use step_writing::single::Place;
+use step_writing::single::Step;
 use step_writing::single::write_of_key;
 use steps::firing::Taken;
 use steps::search::MOST_STEPS;
@@ -34,11 +38,6 @@ ghost use Rattle.step_writing.specs.Lines.{WroteLines};
 ghost use Rattle.proof_writing.specs.Ready.{AskedLine, OnLine, SpotReady, StepRoom, TakenReady, ProofReady};
 ghost use Rattle.proof_writing.specs.Sizes.{sizeOf};
 ghost use Rattle.proof_writing.specs.Cited.{stepOn, takenBy, proofBy};
-
-// "epsilon: no premise; any key with empty target"; in edition 2 "any key whose target is a single attribute label"
-const EPSILON: usize = 1;
-
-const ONE_ATTRIBUTE: usize = 10;
 
 // How many lines a step has: from a chain node, with the empty path in S and without; from inside a branch.
 const CHAIN_EMPTY_LINES: usize = 8;
@@ -64,47 +63,41 @@ fn put_asked(line: &mut [u8], asked: &[u8], branch: usize) -> usize
 // The lines of a step whose line is given.
 fn write_on(
     out: &mut [u8],
-    at: usize,
-    lines: usize,
+    place: Place,
     line: &[u8],
     asked: &[u8],
     cited: &[u8],
-    key: usize,
-    node: usize,
-    spot: usize,
+    taken: Taken,
 ) -> usize
-    requires { ⌜ OnLine (now out) at lines (now line) (now asked) (now cited) node spot ⌝ }
-    ensures { λ r. ⌜ WroteLines (now (out .entry)) (now (out .exit)) at (stepOn (now (line .entry)) (keyIn (now (asked .entry))) (keyIn (now (cited .entry))) key node spot lines) r ⌝ }
+    requires { ⌜ OnLine (now out) (place .at) (place .lines) (now line) (now asked) (now cited) (taken .node) (taken .spot) ⌝ }
+    ensures { λ r. ⌜ WroteLines (now (out .entry)) (now (out .exit)) (place .at) (stepOn (now (line .entry)) (keyIn (now (asked .entry))) (keyIn (now (cited .entry))) (taken .key) (taken .node) (taken .spot) (place .lines)) r ⌝ }
 {
     let chain = context(asked).len() + target(asked).len();
-    let next = write_opening(out, at, lines, line, cited, key, node, spot);
+    let node = taken.node;
+    let spot = taken.spot;
+    let next = write_opening(out, place, line, cited, taken.key, node, spot);
+    let behind = Place {
+        at: next,
+        lines: place.lines,
+    };
+    let step = Step { chain, node, spot };
     if spot <= chain {
-        return write_chain(out, next, lines, line, chain, node, spot, asked, cited);
+        return write_chain(out, behind, line, step, asked, cited);
     }
     if holds_empty(asked) {
-        return write_empty(out, next, lines, line, chain, node, spot, asked, cited);
+        return write_empty(out, behind, line, step, asked, cited);
     }
-    write_end(out, next, lines, line, chain, node, asked)
+    write_end(out, next, place.lines, line, chain, node, asked)
 }
 
 // The lines of a step with the cited key's body.
-fn write_step(
-    out: &mut [u8],
-    at: usize,
-    lines: usize,
-    asked: &[u8],
-    cited: &[u8],
-    key: usize,
-    node: usize,
-    branch: usize,
-    spot: usize,
-) -> usize
-    requires { ⌜ SpotReady (now asked) (now cited) node branch spot × StepRoom (now out) at lines ⌝ }
-    ensures { λ r. ⌜ WroteLines (now (out .entry)) (now (out .exit)) at (stepLines (keyIn (now (asked .entry))) (keyIn (now (cited .entry))) key node branch spot lines) r ⌝ }
+fn write_step(out: &mut [u8], place: Place, asked: &[u8], cited: &[u8], taken: Taken) -> usize
+    requires { ⌜ SpotReady (now asked) (now cited) (taken .node) (taken .branch) (taken .spot) × StepRoom (now out) (place .at) (place .lines) ⌝ }
+    ensures { λ r. ⌜ WroteLines (now (out .entry)) (now (out .exit)) (place .at) (stepLines (keyIn (now (asked .entry))) (keyIn (now (cited .entry))) (taken .key) (taken .node) (taken .branch) (taken .spot) (place .lines)) r ⌝ }
 {
     let mut line = [0u8; LINE_SYMBOLS];
-    let end = put_asked(&mut line, asked, branch);
-    write_on(out, at, lines, &line[..end], asked, cited, key, node, spot)
+    let end = put_asked(&mut line, asked, taken.branch);
+    write_on(out, place, &line[..end], asked, cited, taken)
 }
 
 // The lines of a remembered step: key number s is record labels + s, where so many records stand before the keys.
@@ -122,17 +115,11 @@ fn write_taken(
 {
     let rest = record_at(profile, labels + step.key);
     let end = front_length(rest);
-    write_step(
-        out,
-        at,
-        lines,
-        asked,
-        &rest[HEAD_BYTES..end],
-        step.key,
-        step.node,
-        step.branch,
-        step.spot,
-    )
+    let place = Place {
+        at: at,
+        lines: lines,
+    };
+    write_step(out, place, asked, &rest[HEAD_BYTES..end], step)
 }
 
 // How many lines a step has.

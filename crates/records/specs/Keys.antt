@@ -1,25 +1,18 @@
 -- Key records and proof lines judged by the class table, return by return; and the same by the labels.
-use Prim.Native.Nat.{ℕ, zero, suc, _+_, _-_, _≤_, _<_}
-use mathlib.Core.Path.{_≡_, refl, sym, subst, ap, _∙_}
-use mathlib.Core.Bool.{Bool, true, false, cond, _&&_, _||_, not}
-use mathlib.Core.List.{List, [], _∷_}
+use Prim.Native.Nat.{ℕ, _-_, _≤_}
+use mathlib.Core.Path.{_≡_, sym, ap, _∙_}
+use mathlib.Core.Bool.{Bool, true, false, not}
+use mathlib.Core.List.{List}
 use native.Mathlib.Omega.{arith}
-use borrow.Author.Tests.{eqb-true, eqb-false, eq-eqb, ne-eqb, not-true, not-false}
-use lib.Dec.{eqb}
-use lib.ListN.{length, take, drop}
+use borrow.Author.Tests.{not-false}
+use lib.ListN.{take, drop}
 use lib.Seq.{drop-drop}
 use Rattle.meaning.specs.Limits.{inProfile, inProof}
-use Rattle.meaning.specs.Lists.{isEmpty}
-use Rattle.meaning.specs.Paths.{Label}
-use Rattle.meaning.specs.Keys.{Key}
-use Rattle.meaning.specs.Rules.{Line}
 use Rattle.meaning.specs.Records.{word, recordLength, recordKind, recordBody, readKey, isSome, keyIn, readLine}
-use Rattle.meaning.specs.Refusals.{firstOf, tooMany, whole, keyTests, Profile, profileTests, inProfileOrder, questionTests, lineTests}
-use Rattle.shapes.specs.Classes.{Tabled, keyTestsBy}
-use Rattle.shapes.specs.Tables.{bytes-key, tests-tabled}
-use Rattle.theory_records.specs.Bytes.{Bytes, bytes-at, bytes-drop}
+use Rattle.meaning.specs.Refusals.{firstOf, whole}
+use Rattle.shapes.specs.Classes.{keyTestsBy}
 use Rattle.theory_records.specs.Heads.{Whole, whole-says, body-length}
-use Rattle.theory_records.specs.Encodings.{ends-key, ends-line, bytes-body}
+use Rattle.theory_records.specs.Encodings.{ends-key, ends-line}
 use Rattle.theory_records.specs.HeadTests.{headTests, body-part}
 use Rattle.records.specs.Labels.{drop-take}
 

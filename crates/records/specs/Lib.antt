@@ -7,4 +7,4 @@ pub mod KeyWalks
 pub mod LabelWalks
 pub mod ProfileWalks
 pub mod QuestionWalks
-pub mod LineWalks
+pub mod Accepted

@@ -1,11 +1,11 @@
 -- What reading a profile comes to, beside `profileRefusal`, `labelsIn` and `keysIn` of `meaning`.
 use Prim.Native.Nat.{ℕ, zero, suc, _+_, _≤_, _<_}
 use mathlib.Core.Path.{_≡_, refl, sym, subst, ap, ap₂, _∙_}
-use mathlib.Core.Bool.{Bool, true, false, cond, _&&_, not}
+use mathlib.Core.Bool.{Bool, true, false, not}
 use mathlib.Core.List.{List, [], _∷_}
 use native.Mathlib.Omega.{arith}
 use borrow.Author.Tests.{le-ltb, lt-ltb, eq-eqb, ne-eqb, eqb-true, not-true, not-false}
-use lib.Dec.{eqb, ltb, eqb·suc-zero}
+use lib.Dec.{eqb}
 use lib.ListN.{length, getD, drop}
 use Rattle.meaning.specs.Paths.{Label}
 use Rattle.meaning.specs.Records.{word, recordLength, recordKind, recordBody}

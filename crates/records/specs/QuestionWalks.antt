@@ -1,10 +1,9 @@
 -- A question beside the walk of `meaning`: its first record, and what may stand behind it.
-use Prim.Native.Nat.{ℕ, zero, suc, _+_, _*_, _-_, _≤_, _<_}
-use mathlib.Core.Path.{_≡_, refl, sym, subst, ap, _∙_}
-use mathlib.Core.Bool.{Bool, true, false, cond, _&&_, not}
+use Prim.Native.Nat.{ℕ, zero, suc, _-_, _≤_, _<_}
+use mathlib.Core.Path.{_≡_, refl, sym, ap, _∙_}
+use mathlib.Core.Bool.{Bool, true, false}
 use mathlib.Core.List.{List, [], _∷_, _++_}
 use native.Mathlib.Omega.{arith}
-use borrow.Author.Tests.{le-ltb, not-true, not-false}
 use borrow.Rule.Slice.PartAt.{part-to-end}
 use lib.Dec.{eqb, eqb·suc-zero}
 use lib.ListN.{length, take, drop, length-drop, drop-of-length-le}
@@ -12,7 +11,7 @@ use Rattle.meaning.specs.Lists.{isEmpty}
 use Rattle.meaning.specs.Paths.{Label}
 use Rattle.meaning.specs.Keys.{Key}
 use Rattle.meaning.specs.Records.{word, recordLength, recordKind, recordBody, keyIn}
-use Rattle.meaning.specs.Refusals.{Refusal, sound, firstRefusal, Walked, walk, firstOf, whole, questionTests, questionWalked, questionRefusal}
+use Rattle.meaning.specs.Refusals.{sound, firstRefusal, walk, firstOf, whole, questionTests, questionWalked, questionRefusal}
 use Rattle.shapes.specs.Classes.{Tabled}
 use Rattle.theory_records.specs.Bytes.{Bytes}
 use Rattle.theory_records.specs.Judged.{some-empty}
@@ -20,7 +19,8 @@ use Rattle.theory_records.specs.Questions.{question-long}
 use Rattle.theory_records.specs.Walks.{walk-step, walk-stop, walk-end}
 use Rattle.records.specs.Keys.{keyRecordTestsBy}
 use Rattle.records.specs.Agree.{question-agrees}
-use Rattle.records.specs.KeyWalks.{KeyHere, key-here}
+use Rattle.records.specs.KeyWalks.{key-here}
+use Rattle.theory_paths.specs.Bools.{and-false}
 
 pub question-empty : (labels : List Label) (bytes : List ℕ) → length bytes ≡ 0 → record { number = 1; input = 2; place = 0 } ≡ questionRefusal labels bytes
 unfolding questionRefusal firstRefusal questionWalked walk isEmpty
@@ -41,10 +41,6 @@ sound-by : (labels : List Label) (bytes : List ℕ) (n : ℕ) (read : List Key) 
     → questionWalked labels bytes ≡ record { number = 0; at = n; state = read } → sound ≡ questionRefusal labels bytes
 unfolding questionRefusal firstRefusal
 sound-by labels bytes n read some e = rw (e, some-empty bytes some)
-
-and-false : (a : Bool) → a && false ≡ false
-and-false true = refl
-and-false false = refl
 
 -- a record behind the first is refused: by 1 or by 2
 second-torn : (labels : List Label) (k : Key) (l : List ℕ) → whole l ≡ false → firstOf (questionTests labels (k ∷ []) l) ≡ 1

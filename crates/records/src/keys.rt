@@ -10,6 +10,8 @@ use shapes::fields::HEAD_BYTES;
 use shapes::fields::KIND_AT;
 use shapes::fields::too_many;
 use shapes::fields::word;
+use shapes::limits::KEY_IN_LINE;
+use shapes::limits::LINE_SYMBOLS;
 ghost use mathlib.Core.Path.{_≡_};
 ghost use Rattle.meaning.specs.Refusals.{firstOf};
 ghost use Rattle.records.specs.Keys.{keyRecordTestsBy, lineTestsBy};
@@ -25,13 +27,9 @@ const PATH_SYMBOLS: usize = 8;
 
 const KEY_PATHS: usize = 4;
 // "In a proof line, C and T may have 32 symbols, and there may be 64 key paths of 16."
-const LINE_SYMBOLS: usize = 32;
-
 const LINE_PATH_SYMBOLS: usize = 16;
 
 const LINE_KEY_PATHS: usize = 64;
-// Where the key body stands in a line's record: "rule (1), first premise (2), second premise (2), a key body"
-const KEY_IN_LINE: usize = 9;
 
 // The number that the key record at the front gives, after so many keys: 7, 1, 2, then 4, 5, 6.
 pub fn judge_key(rest: &[u8], keys: usize, classes: &[u8; 256]) -> usize

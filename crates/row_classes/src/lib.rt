@@ -1,7 +1,7 @@
 // The rows of a tree, filled in place: parents, labels, child links, the class of each node (the smallest node equal to it, found among nodes of the
 // same weight by `node_eq`, from the back), and the next node of its class.
 use row_equal::node_eq;
-use tree_nodes::fields::NODES;
+use shapes::limits::TREE_NODES;
 use tree_nodes::fields::parent;
 use tree_nodes::fields::size;
 use tree_nodes::tables::at;
@@ -12,8 +12,8 @@ use tree_rows::fields::put_parents;
 use tree_rows::rows::ROWS;
 use tree_rows::rows::class_of;
 use tree_weights::weigh;
+use tree_weights::wide;
 ghost use mathlib.Core.Path.{_≡_};
-ghost use mathlib.Core.Bool.{Bool};
 ghost use Prim.Native.Nat.{ℕ, _+_, _<_, _≤_};
 ghost use lib.ListN.{length, getD};
 ghost use Rattle.meaning.specs.Trees.{Equal};
@@ -39,12 +39,6 @@ const CLASS: usize = 16384;
 
 const SAME: usize = 20480;
 
-fn wide(n: u32) -> usize
-    ensures { λ r. ⌜ r ≡ n ⌝ }
-{
-    n as usize
-}
-
 // Child links, from the back: children stand after their parents.
 fn link(tree: &[u8], classes: &[u8; 256], rows: &mut [u16; ROWS])
     requires { ⌜ TreeBytes (now classes) (now tree) × (length (now rows) ≡ 24576) ⌝ }
@@ -63,14 +57,14 @@ fn link(tree: &[u8], classes: &[u8; 256], rows: &mut [u16; ROWS])
 
 // The weights sorted into as many buckets as there are nodes: equal nodes stand in one bucket. The low part of a weight is a count of nodes, equal
 // for all leaves; the part above it is spread.
-fn sort(weight: &[u32; 4096], count: usize) -> [u16; 4096]
+fn sort(weight: &[u32; TREE_NODES], count: usize) -> [u16; TREE_NODES]
     requires { ⌜ (0 < count) × (count ≤ 4096) ⌝ }
     ensures { λ r. ⌜ Sorted (now (weight .entry)) r count count ⌝ }
 {
     let mut bucket = blank();
     let mut x = 0;
     while x < count {
-        let own = wide(weight[x]) / NODES % count;
+        let own = wide(weight[x]) / TREE_NODES % count;
         bucket[x] = own as u16;
         x += 1;
     }
@@ -78,7 +72,7 @@ fn sort(weight: &[u32; 4096], count: usize) -> [u16; 4096]
 }
 
 // To each node the next one of its bucket; 0 where there is none.
-fn chain(bucket: &[u16; 4096], count: usize) -> [u16; 4096]
+fn chain(bucket: &[u16; TREE_NODES], count: usize) -> [u16; TREE_NODES]
     requires { ⌜ (0 < count) × (count ≤ 4096) × ((x : ℕ) → x < count → getD (now bucket) x 0 < count) ⌝ }
     ensures { λ r. ⌜ Nexts (byClass count (now (bucket .entry))) r ⌝ }
 {
@@ -99,8 +93,8 @@ fn alike(
     tree: &[u8],
     classes: &[u8; 256],
     rows: &[u16; ROWS],
-    marks: &mut [u16; 4096],
-    weight: &[u32; 4096],
+    marks: &mut [u16; TREE_NODES],
+    weight: &[u32; TREE_NODES],
     x: usize,
     y: usize,
 ) -> bool
@@ -120,10 +114,10 @@ fn leader(
     tree: &[u8],
     classes: &[u8; 256],
     rows: &[u16; ROWS],
-    marks: &mut [u16; 4096],
-    weight: &[u32; 4096],
-    bucket: &[u16; 4096],
-    chained: &[u16; 4096],
+    marks: &mut [u16; TREE_NODES],
+    weight: &[u32; TREE_NODES],
+    bucket: &[u16; TREE_NODES],
+    chained: &[u16; TREE_NODES],
     x: usize,
 ) -> usize
     requires { ⌜ Ready (now classes) (now tree) (row 8192 (now rows)) (row 12288 (now rows)) × Weighed (classBy (now classes)) (fileTable (now tree)) (now weight) ⌝ }
@@ -143,7 +137,7 @@ fn leader(
 }
 
 // A class for each node, from the back.
-fn gather(tree: &[u8], classes: &[u8; 256], weight: &[u32; 4096], rows: &mut [u16; ROWS])
+fn gather(tree: &[u8], classes: &[u8; 256], weight: &[u32; TREE_NODES], rows: &mut [u16; ROWS])
     requires { ⌜ Ready (now classes) (now tree) (row 8192 (now rows)) (row 12288 (now rows)) × Weighed (classBy (now classes)) (fileTable (now tree)) (now weight) × (length (now rows) ≡ 24576) ⌝ }
     ensures { λ _. ⌜ Gathered (now (classes .entry)) (now (tree .entry)) (now (rows .entry)) (now (rows .exit)) ⌝ }
 {
@@ -170,7 +164,7 @@ fn gather(tree: &[u8], classes: &[u8; 256], weight: &[u32; 4096], rows: &mut [u1
 }
 
 // Of each class its smallest node.
-fn lowest(rows: &[u16; ROWS], count: usize) -> [u16; 4096]
+fn lowest(rows: &[u16; ROWS], count: usize) -> [u16; TREE_NODES]
     requires { ⌜ (0 < count) × (count ≤ 4096) × ((x : ℕ) → x < count → getD (row 16384 (now rows)) x 0 < count) ⌝ }
     ensures { λ r. ⌜ LowFrom (row 16384 (now (rows .entry))) r count 1 ⌝ }
 {
@@ -185,7 +179,7 @@ fn lowest(rows: &[u16; ROWS], count: usize) -> [u16; 4096]
 }
 
 // Each class by its smallest node, in place.
-fn name(low: &[u16; 4096], count: usize, rows: &mut [u16; ROWS])
+fn name(low: &[u16; TREE_NODES], count: usize, rows: &mut [u16; ROWS])
     requires { ⌜ (0 < count) × (count ≤ 4096) × ((x : ℕ) → x < count → getD (row 16384 (now rows)) x 0 < count) ⌝ }
     requires { ⌜ (length (now rows) ≡ 24576) × (getD (row 16384 (now rows)) 0 0 ≡ 0) ⌝ }
     ensures { λ _. ⌜ Named (now (low .entry)) (now (rows .entry)) (now (rows .exit)) count ⌝ }

@@ -1,12 +1,13 @@
 // ".. some one-to-one pairing makes them so" (request 2), of the attributes of two elements. Attributes of known classes are paired by class: those
 // of the one element put a mark at their class, those of the other take one off. So a call costs the children of both, in whatever order.
 use crate::children::seek;
+use shapes::limits::TREE_NODES;
 use tree_rows::rows::ROWS;
 use tree_rows::rows::class_of;
 use tree_rows::rows::first_child;
 use tree_rows::rows::next_sibling;
 ghost use mathlib.Core.Path.{_≡_};
-ghost use mathlib.Core.Bool.{Bool, true};
+ghost use mathlib.Core.Bool.{true};
 ghost use Prim.Native.Nat.{_+_, _<_, _≤_};
 ghost use lib.ListN.{length};
 ghost use Rattle.meaning.specs.Trees.{EqualSets};
@@ -23,7 +24,7 @@ fn mark(
     tree: &[u8],
     classes: &[u8; 256],
     rows: &[u16; ROWS],
-    marks: &mut [u16; 4096],
+    marks: &mut [u16; TREE_NODES],
     from: usize,
     v: usize,
 ) -> usize
@@ -49,7 +50,7 @@ fn pair_off(
     tree: &[u8],
     classes: &[u8; 256],
     rows: &[u16; ROWS],
-    marks: &mut [u16; 4096],
+    marks: &mut [u16; TREE_NODES],
     from: usize,
     x: usize,
     y: usize,
@@ -81,7 +82,7 @@ fn unmark(
     tree: &[u8],
     classes: &[u8; 256],
     rows: &[u16; ROWS],
-    marks: &mut [u16; 4096],
+    marks: &mut [u16; TREE_NODES],
     from: usize,
     v: usize,
 )
@@ -104,7 +105,7 @@ pub fn attributes_eq(
     tree: &[u8],
     classes: &[u8; 256],
     rows: &[u16; ROWS],
-    marks: &mut [u16; 4096],
+    marks: &mut [u16; TREE_NODES],
     from: usize,
     x: usize,
     y: usize,

@@ -3,7 +3,6 @@ use shapes::classes::is_attribute;
 use tree_nodes::fields::label;
 use tree_rows::rows::ROWS;
 use tree_rows::rows::next_sibling;
-ghost use mathlib.Core.Bool.{Bool};
 ghost use Prim.Native.Nat.{_<_};
 ghost use Rattle.tree_nodes.specs.FileTable.{fileTable, classBy, TreeBytes};
 ghost use Rattle.tree_nodes.specs.Links.{Nexts};

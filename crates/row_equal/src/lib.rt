@@ -7,14 +7,14 @@ mod children;
 use crate::attributes::attributes_eq;
 use crate::children::seek;
 use shapes::classes::is_element;
+use shapes::limits::TREE_NODES;
 use tree_nodes::fields::label;
 use tree_nodes::fields::value;
 use tree_rows::rows::ROWS;
 use tree_rows::rows::class_of;
 use tree_rows::rows::first_child;
 use tree_rows::rows::next_sibling;
-ghost use mathlib.Core.Path.{_≡_};
-ghost use mathlib.Core.Bool.{Bool, false};
+ghost use mathlib.Core.Bool.{false};
 ghost use Prim.Native.Nat.{_+_, _<_, _≤_};
 ghost use Rattle.meaning.specs.Trees.{Equal, EqualLists};
 ghost use Rattle.tree_nodes.specs.FileTable.{fileTable, classBy};
@@ -31,7 +31,7 @@ pub fn node_eq(
     tree: &[u8],
     classes: &[u8; 256],
     rows: &[u16; ROWS],
-    marks: &mut [u16; 4096],
+    marks: &mut [u16; TREE_NODES],
     from: usize,
     x: usize,
     y: usize,
@@ -65,7 +65,7 @@ fn children_eq(
     tree: &[u8],
     classes: &[u8; 256],
     rows: &[u16; ROWS],
-    marks: &mut [u16; 4096],
+    marks: &mut [u16; TREE_NODES],
     from: usize,
     x: usize,
     y: usize,

@@ -1,16 +1,13 @@
 -- Paths as bytes at the front of a buffer.
-use Prim.Native.Nat.{ℕ, zero, suc, _+_, _-_, _<_, _≤_}
-use mathlib.Core.Path.{_≡_, refl, sym, _∙_, ap, ap₂, subst}
-use mathlib.Core.Bool.{Bool, true, false, _&&_}
+use Prim.Native.Nat.{ℕ, _≤_}
+use mathlib.Core.Path.{_≡_, refl, sym, _∙_, ap, ap₂}
+use mathlib.Core.Bool.{Bool, true, _&&_}
 use mathlib.Core.List.{List, [], _∷_, _++_, map, flatten, append-assoc}
-use native.Mathlib.Omega.{arith}
-use lib.Dec.{leb}
-use lib.ListN.{length, take, drop, length-append}
-use lib.Seq.{take-append-seam, drop-append-seam}
-use borrow.Author.Tests.{le-leb}
+use lib.ListN.{length, take}
 use Rattle.meaning.specs.Lists.{isEmpty}
 use Rattle.meaning.specs.Records.{pathBytes}
-use Rattle.shapes.specs.Parts.{holdsPath, leadPath, afterPath, pathsEnd, pathsOf}
+use Rattle.shapes.specs.Parts.{afterPath, pathsEnd, pathsOf}
+use Rattle.shapes.specs.PathBytes.{holds-front, lead-front, after-front}
 
 unfoldable pub bytesOf : List (List ℕ) → List ℕ
 bytesOf ps = flatten (map pathBytes ps)
@@ -19,19 +16,6 @@ pub bytes-append : (ps qs : List (List ℕ)) → bytesOf (ps ++ qs) ≡ bytesOf 
 unfolding bytesOf flatten
 bytes-append [] qs = refl
 bytes-append (p ∷ ps) qs = ap (λ (l : List ℕ). pathBytes p ++ l) (bytes-append ps qs) ∙ sym (append-assoc (pathBytes p) (bytesOf ps) (bytesOf qs))
-
--- a path at the front is read back
-holds-front : (p r : List ℕ) → holdsPath (pathBytes p ++ r) ≡ true
-unfolding holdsPath pathBytes
-holds-front p r = le-leb (length p) (length (p ++ r)) (omega (arith, length-append p r))
-
-lead-front : (p r : List ℕ) → leadPath (pathBytes p ++ r) ≡ p
-unfolding leadPath pathBytes
-lead-front p r = take-append-seam p r
-
-after-front : (p r : List ℕ) → afterPath (pathBytes p ++ r) ≡ r
-unfolding afterPath pathBytes
-after-front p r = drop-append-seam p r
 
 encoded-ends : (ps : List (List ℕ)) → pathsEnd (length ps) (bytesOf ps) ≡ true
 unfolding pathsEnd bytesOf flatten isEmpty

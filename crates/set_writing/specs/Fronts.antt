@@ -1,16 +1,17 @@
 -- A path put in front of each path of a set.
-use Prim.Native.Nat.{ℕ, zero, suc, _+_, _-_, _*_, _<_, _≤_}
-use mathlib.Core.Path.{_≡_, refl, sym, _∙_, ap, ap₂, subst}
-use mathlib.Core.Bool.{Bool, true, false}
+use Prim.Native.Nat.{ℕ, _+_, _-_, _*_, _<_, _≤_}
+use mathlib.Core.Path.{_≡_, refl, sym, _∙_, ap}
+use mathlib.Core.Bool.{true}
 use mathlib.Core.List.{List, [], _∷_, _++_, map, flatten, append-assoc, append-nil}
 use native.Mathlib.Omega.{arith}
-use lib.ListN.{length, take, drop, length-append, length-map}
+use lib.ListN.{length, length-append, length-map}
 use Rattle.meaning.specs.Records.{pathBytes}
-use Rattle.shapes.specs.Parts.{holdsPath, leadPath, afterPath, pathsEnd, pathsOf}
+use Rattle.shapes.specs.Parts.{leadPath, afterPath, pathsEnd, pathsOf}
+use Rattle.shapes.specs.KeyPaths.{paths-count, step-holds}
 use Rattle.writing.specs.Wrote.{Wrote, wrote-more, wrote-part, wrote-none, wrote-is}
-use Rattle.line_writing.specs.LineParts.{Sized, paths-number}
+use Rattle.line_writing.specs.LineParts.{Sized}
 use Rattle.set_writing.specs.Encoded.{SetIn, set-in, bytesOf, bytes-append}
-use Rattle.set_writing.specs.Places.{some-left, rest-left, paths-left, path-length}
+use Rattle.set_writing.specs.Places.{rest-left, paths-left, path-length}
 
 pub joined-wrote : {o a b c front path : List ℕ} {at p q r n : ℕ} → Wrote b c q path r → Wrote a b p front q → Wrote o a at (n ∷ []) p
     → n ≡ length front + length path → Sized o c at (pathBytes (front ++ path)) (length front + length path + 1) r
@@ -63,7 +64,7 @@ module _ {buffer front paths mid : List ℕ} {count at left : ℕ} {rest : List 
   module _ (h : 0 < left) {path : List ℕ} (lead : path ≡ leadPath rest) where
     pub fronting-fits : (length front + length path < 256) × (at + length front + length path + 1 ≤ length mid)
     fronting-fits =
-        let l = path-length rest (some-left left rest h (u .ends)) lead {next = afterPath rest} refl in
+        let l = path-length rest (step-holds left rest h (u .ends)) lead {next = afterPath rest} refl in
         let s = u .small in
         let k = u .wrote .kept in
         let w = u .within in
@@ -76,7 +77,7 @@ module _ {buffer front paths mid : List ℕ} {count at left : ℕ} {rest : List 
         → {next : List ℕ} → next ≡ afterPath rest → Fronting buffer front count paths end last (left - 1) next
     unfolding inFront bytesOf flatten
     fronting-next {end} {last} w {next} n =
-        let l = path-length rest (some-left left rest h (u .ends)) lead n in
+        let l = path-length rest (step-holds left rest h (u .ends)) lead n in
         let s = u .small in
         let a = f .front-short in
         let z = w .size in
@@ -105,7 +106,7 @@ module _ {buffer front paths mid : List ℕ} {count at left : ℕ} {rest : List 
       let k = u .wrote .kept in
       record {
         holds = set-in (inFront front (pathsOf count paths)) (let r = u .wrote .room in let a = u .wrote .after in omega arith)
-            (sym (length-map (pathsOf count paths) (λ (p : List ℕ). front ++ p) ∙ paths-number count paths))
+            (sym (length-map (pathsOf count paths) (λ (p : List ℕ). front ++ p) ∙ paths-count count paths))
             (wrote-part (u .wrote) ∙ ap bytesOf done);
         kept = k;
         shorter = let s = u .small in omega arith;

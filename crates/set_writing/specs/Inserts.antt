@@ -1,6 +1,6 @@
 -- A path put into a set in a buffer.
 use Prim.Native.Nat.{ℕ, zero, suc, _+_, _-_, _<_, _≤_}
-use mathlib.Core.Path.{_≡_, refl, sym, _∙_, ap, ap₂, subst}
+use mathlib.Core.Path.{_≡_, refl, sym, _∙_, ap, ap₂}
 use mathlib.Core.Bool.{Bool, true, false}
 use mathlib.Core.List.{List, [], _∷_, _++_, append-assoc}
 use native.Mathlib.Omega.{arith}
@@ -8,8 +8,9 @@ use lib.ListN.{length, take, drop, length-append, length-drop}
 use lib.Seq.{take-at, length-take-le, take-take, take-nil}
 use Rattle.meaning.specs.Records.{pathBytes}
 use Rattle.shapes.specs.Parts.{pathsEnd, pathsOf}
+use Rattle.shapes.specs.KeyPaths.{paths-count}
 use Rattle.writing.specs.Wrote.{Wrote, written, wrote-more, wrote-part}
-use Rattle.line_writing.specs.LineParts.{Sized, paths-number}
+use Rattle.line_writing.specs.LineParts.{Sized}
 use Rattle.theory_derive.specs.Sets.{insert}
 use Rattle.set_writing.specs.Encoded.{SetIn, set-in, bytesOf}
 use Rattle.set_writing.specs.Places.{PlaceIn}
@@ -44,7 +45,7 @@ module _ {buffer path : List ℕ} {count used : ℕ} (f : InsertFits buffer coun
       record {
         holds = record {
           within = omega arith;
-          number = sym (ap length e ∙ paths-number count (take used buffer));
+          number = sym (ap length e ∙ paths-count count (take used buffer));
           ends = f .ends;
           are = sym e;
         };

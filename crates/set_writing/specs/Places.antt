@@ -1,16 +1,17 @@
 -- Where a path belongs in a set: behind those paths that stand before it.
 use Prim.Native.Nat.{ℕ, zero, suc, _+_, _-_, _<_, _≤_}
-use mathlib.Core.Path.{_≡_, refl, sym, _∙_, ap, ap₂, subst}
-use mathlib.Core.Bool.{Bool, true, false, cond, _&&_}
-use mathlib.Core.List.{List, [], _∷_, _++_, map, flatten, append-assoc, append-nil}
+use mathlib.Core.Path.{_≡_, refl, sym, _∙_, ap, ap₂}
+use mathlib.Core.Bool.{Bool, true, false}
+use mathlib.Core.List.{List, [], _∷_, _++_, flatten, append-assoc, append-nil}
 use native.Mathlib.Omega.{arith}
 use native.Mathlib.Numerals.{sub-one}
 use lib.ListN.{length, take, drop, length-append}
 use lib.Seq.{take-at, drop-at}
-use Rattle.meaning.specs.Lists.{same, before, isEmpty}
+use Rattle.meaning.specs.Lists.{same, before}
 use Rattle.meaning.specs.Records.{pathBytes}
 use Rattle.shapes.specs.Parts.{holdsPath, leadPath, afterPath, pathsEnd, pathsOf}
-use Rattle.line_writing.specs.LineParts.{and-first, and-second, path-bytes, paths-bytes, paths-number, empty-is}
+use Rattle.shapes.specs.KeyPaths.{paths-count, step-holds, step-ends}
+use Rattle.shapes.specs.PathBytes.{path-bytes, paths-bytes}
 use Rattle.theory_derive.specs.Sets.{insert}
 use Rattle.set_writing.specs.Encoded.{bytesOf, bytes-append}
 
@@ -48,22 +49,9 @@ module _ (q : List ℕ) (path : List ℕ) (qs : List (List ℕ)) where
   unfolding insert
   insert-behind e f = rw (e, f)
 
-ends-holds : (left : ℕ) (rest : List ℕ) → pathsEnd (suc left) rest ≡ true → holdsPath rest ≡ true
-unfolding pathsEnd
-ends-holds left rest e = and-first (holdsPath rest) _ e
-
-ends-rest : (left : ℕ) (rest : List ℕ) → pathsEnd (suc left) rest ≡ true → pathsEnd left (afterPath rest) ≡ true
-unfolding pathsEnd
-ends-rest left rest e = and-second (holdsPath rest) _ e
-
--- a path stands whole at the front while some are left
-pub some-left : (left : ℕ) (rest : List ℕ) → 0 < left → pathsEnd left rest ≡ true → holdsPath rest ≡ true
-some-left zero rest h e = absurd (omega arith)
-some-left (suc left) rest h e = ends-holds left rest e
-
 pub rest-left : (left : ℕ) (rest : List ℕ) → 0 < left → pathsEnd left rest ≡ true → {next : List ℕ} → next ≡ afterPath rest → pathsEnd (left - 1) next ≡ true
 rest-left zero rest h e n = absurd (omega arith)
-rest-left (suc left) rest h e n = rw (sub-one, n) (ends-rest left rest e)
+rest-left (suc left) rest h e n = rw (sub-one, n) (step-ends left rest e)
 
 pub paths-left : (left : ℕ) (rest : List ℕ) → 0 < left → {p : List ℕ} → p ≡ leadPath rest → {next : List ℕ} → next ≡ afterPath rest
     → pathsOf left rest ≡ p ∷ pathsOf (left - 1) next
@@ -82,9 +70,6 @@ path-length rest h {p} f {next} n =
     omega arith
 
 module _ {count : ℕ} {paths path : List ℕ} {left : ℕ} {rest : List ℕ} (s : Seeking count paths path left rest) where
-  place : ℕ
-  place = length paths - length rest
-
   place-length : length (bytesOf (s .passed)) ≡ length paths - length rest
   place-length = let e = length-append (bytesOf (s .passed)) rest in let f = ap length (s .bytes) in omega arith
 
@@ -106,7 +91,7 @@ module _ {count : ℕ} {paths path : List ℕ} {left : ℕ} {rest : List ℕ} (s
             ∙ ap₂ (λ (a b : List ℕ). a ++ (pathBytes path ++ b)) (sym place-front) (paths-bytes left rest (s .ends) ∙ sym place-rest);
         more = λ _.
             sym (ap length all ∙ length-append (s .passed) (path ∷ pathsOf left rest)
-            ∙ (let n = paths-number left rest in let m = s .number in omega arith));
+            ∙ (let n = paths-count left rest in let m = s .number in omega arith));
         old = λ h. absurd (let z : _≡_ {A = ℕ} 0 1 = cc in omega arith);
       }
 
@@ -138,7 +123,7 @@ module _ {count : ℕ} {paths path : List ℕ} {left : ℕ} {rest : List ℕ} (s
   unfolding bytesOf flatten
   seek-next h {q} f t u {d} v w {next} n =
       let e = paths-left left rest h f n in
-      let holds = some-left left rest h (s .ends) in
+      let holds = step-holds left rest h (s .ends) in
       let l = path-length rest holds f n in
       record {
         passed = s .passed ++ (q ∷ []);

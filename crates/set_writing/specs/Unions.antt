@@ -1,17 +1,17 @@
 -- One set united with another, whose paths have lost their first symbols.
-use Prim.Native.Nat.{ℕ, zero, suc, _+_, _-_, _<_, _≤_}
-use mathlib.Core.Path.{_≡_, refl, sym, _∙_, ap, ap₂, subst}
-use mathlib.Core.Bool.{Bool, true, false}
-use mathlib.Core.List.{List, [], _∷_, _++_, map}
+use Prim.Native.Nat.{ℕ, _+_, _-_, _<_, _≤_}
+use mathlib.Core.Path.{_≡_, refl, sym, _∙_, ap}
+use mathlib.Core.Bool.{true}
+use mathlib.Core.List.{List, map}
 use native.Mathlib.Omega.{arith}
 use lib.ListN.{length, take, drop, length-drop, drop-of-length-le}
 use borrow.Rule.Slice.PartAt.{part-to-end}
-use Rattle.shapes.specs.Parts.{holdsPath, leadPath, afterPath, pathsEnd, pathsOf}
+use Rattle.shapes.specs.Parts.{leadPath, afterPath, pathsEnd, pathsOf}
+use Rattle.shapes.specs.KeyPaths.{paths-count, step-holds}
 use Rattle.writing.specs.Wrote.{Wrote, wrote-part}
-use Rattle.line_writing.specs.LineParts.{paths-number}
 use Rattle.theory_derive.specs.Sets.{insert, unite}
 use Rattle.set_writing.specs.Encoded.{SetIn}
-use Rattle.set_writing.specs.Places.{some-left, rest-left, paths-left, path-length}
+use Rattle.set_writing.specs.Places.{rest-left, paths-left, path-length}
 use Rattle.set_writing.specs.Inserts.{InsertFits, Inserted}
 
 pub beyond-none : (path : List ℕ) (front : ℕ) → length path < front → take (length path - length path) (drop (length path) path) ≡ drop front path
@@ -67,7 +67,7 @@ module _ {buffer set paths mid : List ℕ} {count front more many used left : �
   module _ (h : 0 < left) {p : List ℕ} (lead : p ≡ leadPath rest) {path : List ℕ} (is : path ≡ drop front p) where
     path-room : {next : List ℕ} → next ≡ afterPath rest → length path + 1 + length next ≤ length rest
     path-room n =
-        let l = path-length rest (some-left left rest h (u .ends)) lead n in
+        let l = path-length rest (step-holds left rest h (u .ends)) lead n in
         let e = ap length is in
         let d = length-drop front p in
         omega arith
@@ -113,7 +113,7 @@ module _ {buffer set paths mid : List ℕ} {count front more many used left : �
       let are : pathsOf many (take used mid) ≡ unitedOf count set front more paths =
       ap (λ (n : ℕ). unite (pathsOf many (take used mid)) (map (drop front) (pathsOf n rest))) (sym z) ∙ u .goes in
       record {
-        holds = record { within = omega arith; number = sym (ap length (sym are) ∙ paths-number many (take used mid)); ends = u .holds; are = are };
+        holds = record { within = omega arith; number = sym (ap length (sym are) ∙ paths-count many (take used mid)); ends = u .holds; are = are };
         kept = k ∙ w .kept;
         fewer = let b = u .fewer in omega arith;
         shorter = omega arith;

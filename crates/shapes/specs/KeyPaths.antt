@@ -11,20 +11,13 @@ use Rattle.meaning.specs.Lists.{every}
 use Rattle.meaning.specs.Records.{readKey, keyIn, isSome}
 use Rattle.shapes.specs.Scans.{Scan, scan-start, scan-next, scan-stop, scan-end}
 use Rattle.shapes.specs.Parts.{holdsPath, leadPath, afterPath, pathsEnd, setEnds, pathsOf, setOf, setIn, keyEnds, keyOf, isSome-parts, keyIn-parts}
+use Rattle.theory_paths.specs.Bools.{and-first, and-second}
 
 -- where the key paths begin, behind their count
 unfoldable pub pathsIn : List ℕ → List ℕ
 pathsIn body = drop 1 (setIn body)
 
-and-first : (a b : Bool) → (a && b) ≡ true → a ≡ true
-and-first true b e = refl
-and-first false b e = e
-
-and-second : (a b : Bool) → (a && b) ≡ true → b ≡ true
-and-second true b e = e
-and-second false b e = absurd (let z : _≡_ {A = ℕ} 0 1 = cc in omega arith)
-
-paths-count : (count : ℕ) (l : List ℕ) → length (pathsOf count l) ≡ count
+pub paths-count : (count : ℕ) (l : List ℕ) → length (pathsOf count l) ≡ count
 unfolding pathsOf
 paths-count zero l = refl
 paths-count (suc count) l = ap suc (paths-count count (afterPath l))
@@ -94,7 +87,7 @@ pub at-start-in : (body : List ℕ) → isSome (readKey body) ≡ true → {rest
 at-start-in body e r = rw r (at-start body e)
 
 -- at a path: it stands whole, it is that path, and the next stands behind it
-step-holds : (count : ℕ) (rest : List ℕ) → 0 < count → pathsEnd count rest ≡ true → holdsPath rest ≡ true
+pub step-holds : (count : ℕ) (rest : List ℕ) → 0 < count → pathsEnd count rest ≡ true → holdsPath rest ≡ true
 unfolding pathsEnd
 step-holds zero rest h e = absurd (omega arith)
 step-holds (suc count) rest h e = and-first _ _ e
@@ -104,7 +97,7 @@ unfolding pathsOf
 step-lead zero rest h = absurd (omega arith)
 step-lead (suc count) rest h = refl
 
-step-ends : (count : ℕ) (rest : List ℕ) → pathsEnd (suc count) rest ≡ true → pathsEnd count (afterPath rest) ≡ true
+pub step-ends : (count : ℕ) (rest : List ℕ) → pathsEnd (suc count) rest ≡ true → pathsEnd count (afterPath rest) ≡ true
 unfolding pathsEnd
 step-ends count rest e = and-second (holdsPath rest) _ e
 

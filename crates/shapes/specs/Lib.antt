@@ -8,3 +8,5 @@ pub mod Classes
 pub mod ClassTests
 pub mod Tables
 pub mod KeyPaths
+pub mod PathBytes
+pub mod Hunts

@@ -86,9 +86,6 @@ pathsEnd-split (suc count) l = rw (pathsEnd-split count (afterPath l)) (go (hold
     go true = refl
     go false = refl
 
-Taken : Type 0
-Taken = List (List ℕ) × List ℕ
-
 pathsTaken : Bool → ℕ → List ℕ → Option (List (List ℕ) × List ℕ)
 pathsTaken true count l = some (pathsOf count l, pathsRest count l)
 pathsTaken false count l = none

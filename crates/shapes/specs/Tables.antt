@@ -12,7 +12,7 @@ use Rattle.meaning.specs.Lists.{every}
 use Rattle.meaning.specs.Paths.{Label, Class, isElement, classOf, norm, join, valid, simple}
 use Rattle.meaning.specs.Keys.{Key}
 use Rattle.meaning.specs.Records.{readKey, keyIn, isSome}
-use Rattle.meaning.specs.Refusals.{firstOf, isSymbol, goodPath, goodSymbols, allValid, keyTests}
+use Rattle.meaning.specs.Refusals.{isSymbol, goodPath, goodSymbols, allValid, keyTests}
 use Rattle.shapes.specs.Parts.{leadPath, afterPath, pathsOf, setOf, setIn, keyOf, keyIn-parts}
 use Rattle.shapes.specs.Classes.{Tabled, Bytes, classBy, isSymbolBy, goodPathBy, goodSymbolsBy, allValidBy, keyTestsBy, class-tabled, symbol-tabled}
 
@@ -122,8 +122,3 @@ module _ {labels : List Label} {classes : List ℕ} (tabled : Tabled labels clas
   pub tests-tabled : (limits : KeyLimits) (k : Key) → ByteKey k → keyTestsBy classes limits k ≡ keyTests labels limits k
   unfolding keyTestsBy keyTests
   tests-tabled limits k h = rw (symbols-tabled limits k h, validity-tabled k h)
-
-  -- the number that the tests give, of a key read off bytes
-  pub refusal-tabled : (limits : KeyLimits) (body : List ℕ) → isSome (readKey body) ≡ true → Bytes body
-      → firstOf (keyTestsBy classes limits (keyIn body)) ≡ firstOf (keyTests labels limits (keyIn body))
-  refusal-tabled limits body e h = ap firstOf (tests-tabled limits (keyIn body) (bytes-key body e h))

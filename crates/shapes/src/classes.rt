@@ -1,15 +1,13 @@
 // The class of a label by the table of a profile.
 use crate::fields::wide;
+use crate::limits::FILLER_ATTRIBUTE;
+use crate::limits::TEXT;
 ghost use mathlib.Core.Path.{_≡_};
 ghost use Prim.Native.Nat.{_<_};
 ghost use Rattle.meaning.specs.Paths.{isElement, isAttribute};
 ghost use Rattle.shapes.specs.Classes.{classBy};
 
-// "Label 1 is text"; "202 a filler attribute"; "class (1 element, 2 attribute)"
-const TEXT: usize = 1;
-
-const FILLER_ATTRIBUTE: usize = 202;
-
+// "class (1 element, 2 attribute)"
 const ATTRIBUTE_CLASS: usize = 2;
 
 pub fn is_attribute(classes: &[u8; 256], label: usize) -> bool

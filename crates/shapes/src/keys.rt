@@ -7,6 +7,7 @@ ghost use mathlib.Core.Bool.{true};
 ghost use mathlib.Core.List.{[]};
 ghost use Prim.Native.Nat.{_<_};
 ghost use lib.ListN.{length, getD};
+ghost use Rattle.meaning.specs.Lists.{any, isEmpty};
 ghost use Rattle.meaning.specs.Records.{readKey, keyIn, isSome};
 ghost use Rattle.shapes.specs.Parts.{setIn};
 ghost use Rattle.shapes.specs.KeyPaths.{AtPath};
@@ -29,7 +30,7 @@ pub fn target(body: &[u8]) -> &[u8]
 }
 
 // The count of key paths and what stands behind it.
-fn counted_set(body: &[u8]) -> &[u8]
+pub fn counted_set(body: &[u8]) -> &[u8]
     requires { ⌜ isSome (readKey (now body)) ≡ true ⌝ }
     ensures { λ r. ⌜ now r ≡ setIn (now (body .entry)) ⌝ }
 {
@@ -68,4 +69,23 @@ pub fn path(body: &[u8], n: usize) -> &[u8]
         i += 1;
     }
     lead_path(rest)
+}
+
+// The empty path is in the set.
+pub fn holds_empty(body: &[u8]) -> bool
+    requires { ⌜ isSome (readKey (now body)) ≡ true ⌝ }
+    ensures { λ r. ⌜ r ≡ any isEmpty (keyIn (now (body .entry)) .paths) ⌝ }
+{
+    let n = count(body);
+    let mut rest = paths(body);
+    let mut i = 0;
+    while i < n {
+        if lead_path(rest).len() == 0 {
+            return true;
+        }
+        let next = after_path(rest);
+        rest = next;
+        i += 1;
+    }
+    false
 }

@@ -3,4 +3,5 @@ pub mod bodies;
 pub mod classes;
 pub mod fields;
 pub mod keys;
+pub mod limits;
 pub mod names;

@@ -1,5 +1,4 @@
 // Names and runs of bytes: document 01, "Records", kind 1, and refusal 3.
-use crate::fields::wide;
 ghost use mathlib.Core.Path.{_≡_};
 ghost use Rattle.meaning.specs.Lists.{same};
 ghost use Rattle.meaning.specs.Refusals.{isLetter, inName, isName};

@@ -12,11 +12,11 @@ use Rattle.meaning.specs.Keys.{Key}
 use Rattle.meaning.specs.Records.{readKey, keyIn, isSome, pathBytes}
 use Rattle.shapes.specs.Parts.{pathsEnd, pathsOf}
 use Rattle.shapes.specs.KeyPaths.{AtPath}
+use Rattle.shapes.specs.PathBytes.{paths-bytes}
 use Rattle.theory_paths.specs.Bools.{Each-of}
 use Rattle.theory_paths.specs.Good.{GoodKey, context-length, target-length, key-path-length, paths-within}
 use Rattle.theory_derive.specs.Bytes.{flatten-length}
 use Rattle.theory_derive.specs.Logic.{each-imp}
-use Rattle.line_writing.specs.LineParts.{paths-bytes}
 
 -- "a path of 8 symbols and 4 key paths in profile and question"
 pub record KeyFits (k : Key) : Type 0 where

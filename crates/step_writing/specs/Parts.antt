@@ -1,6 +1,6 @@
 -- Keys whose context and target are read off the asked line, "all others are read off the asked key's lines" (ARGUMENT §5), and the small
 -- sets that they are written with.
-use Prim.Native.Nat.{ℕ, suc, _+_, _-_, _<_, _≤_}
+use Prim.Native.Nat.{ℕ, _+_, _-_, _<_, _≤_}
 use mathlib.Core.Path.{_≡_, ap}
 use mathlib.Core.Bool.{true}
 use mathlib.Core.List.{List, [], _∷_}

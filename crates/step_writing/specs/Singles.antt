@@ -1,23 +1,20 @@
 -- One law for each line that is written with a set made for it.
-use Prim.Native.Nat.{ℕ, suc, _+_, _-_, _<_, _≤_}
+use Prim.Native.Nat.{ℕ, suc, _+_, _≤_}
 use mathlib.Core.Path.{_≡_, refl, sym, _∙_, ap, subst}
-use mathlib.Core.Bool.{Bool, true, false, _||_}
 use mathlib.Core.List.{List, [], _∷_, flatten, append-nil}
 use native.Mathlib.Omega.{arith}
 use lib.ListN.{length, take}
 use borrow.Author.Tests.{le-ltb, ne-eqb}
-use Rattle.meaning.specs.Lists.{any, isEmpty, same, lower, before}
+use Rattle.meaning.specs.Lists.{same, lower, before}
 use Rattle.meaning.specs.Rules.{withEmpty}
 use Rattle.meaning.specs.Records.{keyIn, pathBytes, lineBytes}
-use Rattle.shapes.specs.Parts.{leadPath, afterPath, pathsEnd, pathsOf}
+use Rattle.shapes.specs.Parts.{pathsEnd, pathsOf}
 use Rattle.shapes.specs.KeyPaths.{AtPath}
 use Rattle.writing.specs.Wrote.{Wrote, wrote-part}
 use Rattle.line_writing.specs.LineParts.{LineFits, WroteLine, Sized}
 use Rattle.set_writing.specs.Encoded.{SetIn, set-in, bytesOf}
-use Rattle.set_writing.specs.Places.{rest-left, paths-left}
 use Rattle.set_writing.specs.Inserts.{InsertFits, Inserted}
 use Rattle.theory_derive.specs.Sets.{insert}
-use Rattle.theory_derive.specs.Spots.{holdsEmpty}
 use Rattle.theory_derive.specs.Written.{keyOf, twoLine, oneLine}
 use Rattle.step_writing.specs.Fits.{KeyBody, body-set, OfKeyFits}
 use Rattle.step_writing.specs.Lines.{WroteLines, line-one}
@@ -114,47 +111,3 @@ with-in {end = end} {count = count} {many} {last} k a n w i =
       few = let f = i .fewer in omega arith;
       short = let x = i .shorter in omega arith;
     }
-
--- ---- S holds the empty path
-
-pub record EmptyFrom (left : ℕ) (rest : List ℕ) (w : Bool) : Type 0 where
-  pub ends : pathsEnd left rest ≡ true
-  pub here : any isEmpty (pathsOf left rest) ≡ w
-
-pub empty-start : (body : List ℕ) {bytes : List ℕ} {count : ℕ} → AtPath (keyIn body .paths) 0 bytes → count ≡ length (keyIn body .paths)
-    → EmptyFrom count bytes (holdsEmpty (keyIn body))
-unfolding holdsEmpty
-empty-start body {bytes} {count} a n =
-    let m : length (keyIn body .paths) - 0 ≡ count = omega arith in
-    record {
-      ends = ap (λ (x : ℕ). pathsEnd x bytes) (sym m) ∙ a .ends;
-      here = ap (any isEmpty) (ap (λ (x : ℕ). pathsOf x bytes) (sym m) ∙ a .are);
-    }
-
-is-empty : (p : List ℕ) → length p ≡ 0 → isEmpty p ≡ true
-unfolding isEmpty
-is-empty [] e = refl
-is-empty (x ∷ p) e = absurd (omega arith)
-
-not-empty : (p : List ℕ) → (length p ≡ 0 → ⊥) → isEmpty p ≡ false
-unfolding isEmpty
-not-empty [] e = absurd (e refl)
-not-empty (x ∷ p) e = refl
-
-module _ {left : ℕ} {rest : List ℕ} {w : Bool} (f : EmptyFrom left rest w) where
-  pub empty-found : 0 < left → {p : List ℕ} → p ≡ leadPath rest → length p ≡ 0 → true ≡ w
-  unfolding any
-  empty-found h {p} l e =
-      sym (ap (any isEmpty) (paths-left left rest h l refl) ∙ ap (λ (b : Bool). b || any isEmpty (pathsOf (left - 1) (afterPath rest))) (is-empty p e)) ∙ f .here
-
-  pub empty-next : 0 < left → {p : List ℕ} → p ≡ leadPath rest → (length p ≡ 0 → ⊥) → {next : List ℕ} → next ≡ afterPath rest → EmptyFrom (left - 1) next w
-  unfolding any
-  empty-next h {p} l e {next} n =
-      record {
-        ends = rest-left left rest h (f .ends) n;
-        here = sym (ap (any isEmpty) (paths-left left rest h l n) ∙ ap (λ (b : Bool). b || any isEmpty (pathsOf (left - 1) next)) (not-empty p e)) ∙ f .here;
-      }
-
-  pub empty-end : left ≤ 0 → false ≡ w
-  unfolding any pathsOf
-  empty-end h = let z : left ≡ 0 = omega arith in ap (λ (n : ℕ). any isEmpty (pathsOf n rest)) (sym z) ∙ f .here

@@ -1,25 +1,29 @@
 // A step's first lines, and the lines of a step from a chain node: ARGUMENT, section 5, "k ≤ n". `line` is the asked line of the step's
-// spot, `lines` says how many proof lines stand before, `chain` is the number of symbols of C and T.
-use crate::single::CITED;
-use crate::single::CONTEXT_PATH;
-use crate::single::CONTEXT_TARGET;
-use crate::single::INTERACTION;
-use crate::single::NO_NUMBER;
-use crate::single::PREFIX_EPSILON;
-use crate::single::SUPERKEY;
-use crate::single::TARGET_PATH;
-use crate::single::holds_empty;
+// spot.
+use crate::single::Place;
+use crate::single::Span;
+use crate::single::Step;
 use crate::single::write_along;
 use crate::single::write_fronted;
 use crate::single::write_of_key;
 use crate::single::write_part;
+use line_writing::Head;
 use set_writing::Set;
 use set_writing::UNITED_BYTES;
 use set_writing::unite_beyond;
 use shapes::keys::context;
 use shapes::keys::count;
+use shapes::keys::holds_empty;
 use shapes::keys::paths;
 use shapes::keys::target;
+use shapes::limits::CITATION;
+use shapes::limits::CONTEXT_PATH;
+use shapes::limits::CONTEXT_TARGET;
+use shapes::limits::INTERACTION;
+use shapes::limits::NO_NUMBER;
+use shapes::limits::PREFIX_EPSILON;
+use shapes::limits::SUPERKEY;
+use shapes::limits::TARGET_PATH;
 use writing::put;
 ghost use Prim.Native.Nat.{_+_, _-_, _≤_};
 ghost use lib.ListN.{length};
@@ -34,21 +38,26 @@ ghost use Rattle.step_writing.specs.StepLines.{openingOf, unitedBy, meet
 // "rule 0: s · rule 5: (A', (T_s, S_s)) · rule 6: (A', (norm line j [i..k], S_s))"
 pub fn write_opening(
     out: &mut [u8],
-    at: usize,
-    lines: usize,
+    place: Place,
     line: &[u8],
     cited: &[u8],
     key: usize,
     node: usize,
     spot: usize,
 ) -> usize
-    requires { ⌜ OpeningFits (now out) at lines (now line) (now cited) node spot ⌝ }
-    ensures { λ r. ⌜ WroteLines (now (out .entry)) (now (out .exit)) at (openingOf (now (line .entry)) (keyIn (now (cited .entry))) key node spot lines) r ⌝ }
+    requires { ⌜ OpeningFits (now out) (place .at) (place .lines) (now line) (now cited) node spot ⌝ }
+    ensures { λ r. ⌜ WroteLines (now (out .entry)) (now (out .exit)) (place .at) (openingOf (now (line .entry)) (keyIn (now (cited .entry))) key node spot (place .lines)) r ⌝ }
 {
+    let at = place.at;
+    let lines = place.lines;
     let aim = target(cited);
-    let second = write_of_key(out, at, CITED, key, context(cited), aim, cited);
+    let second = write_of_key(out, at, CITATION, key, context(cited), aim, cited);
     let third = write_of_key(out, second, CONTEXT_PATH, lines, &line[..node], aim, cited);
-    write_along(out, third, TARGET_PATH, lines + 1, line, node, spot, cited)
+    let span = Span {
+        from: node,
+        to: spot,
+    };
+    write_along(out, third, TARGET_PATH, lines + 1, line, span, cited)
 }
 
 // "U = S united with S'"; "Without e, U = S"
@@ -72,84 +81,61 @@ fn united_set(buffer: &mut [u8], asked: &[u8], cited: &[u8], front: usize) -> Se
 // keys that rule 9 joins meet at the spot.
 fn write_meeting(
     out: &mut [u8],
-    at: usize,
-    lines: usize,
+    place: Place,
     line: &[u8],
-    chain: usize,
-    node: usize,
-    spot: usize,
+    step: Step,
     asked: &[u8],
     many: usize,
     united: &[u8],
 ) -> usize
-    requires { ⌜ StepFits (now out) at 3 lines (now line) chain node spot (now asked) × (spot ≤ chain) × UnitedBytes many (now united) ⌝ }
-    ensures { λ r. ⌜ WroteLines (now (out .entry)) (now (out .exit)) at (meetingLinesOf (now (line .entry)) chain (keyIn (now (asked .entry))) (pathsOf many (now (united .entry))) node spot lines) r ⌝ }
+    requires { ⌜ StepFits (now out) (place .at) 3 (place .lines) (now line) (step .chain) (step .node) (step .spot) (now asked) × (step .spot ≤ step .chain) × UnitedBytes many (now united) ⌝ }
+    ensures { λ r. ⌜ WroteLines (now (out .entry)) (now (out .exit)) (place .at) (meetingLinesOf (now (line .entry)) (step .chain) (keyIn (now (asked .entry))) (pathsOf many (now (united .entry))) (step .node) (step .spot) (place .lines)) r ⌝ }
 {
-    let second = write_fronted(out, at, lines + 2, line, node, spot, chain, many, united);
-    let third = write_along(
-        out,
-        second,
-        CONTEXT_TARGET,
-        lines - 1,
-        line,
-        spot,
-        chain,
-        asked,
-    );
-    write_part(
-        out,
-        third,
-        SUPERKEY,
-        lines + 4,
-        NO_NUMBER,
-        line,
-        spot,
-        chain,
-        many,
-        united,
-    )
+    let lines = place.lines;
+    let second = write_fronted(out, place.at, lines + 2, line, step, many, united);
+    let span = Span {
+        from: step.spot,
+        to: step.chain,
+    };
+    let third = write_along(out, second, CONTEXT_TARGET, lines - 1, line, span, asked);
+    let first = lines + 4;
+    let head = Head {
+        rule: SUPERKEY,
+        first: first,
+        second: NO_NUMBER,
+    };
+    write_part(out, third, head, line, span, many, united)
 }
 
 // "rule 9 of the two: (A', (norm (C++T)[i..n], U)) · with e in S, rule 2: K i"
 fn write_chain_lines(
     out: &mut [u8],
-    at: usize,
-    lines: usize,
+    place: Place,
     line: &[u8],
-    chain: usize,
-    node: usize,
-    spot: usize,
+    step: Step,
     asked: &[u8],
     many: usize,
     united: &[u8],
 ) -> usize
-    requires { ⌜ StepFits (now out) at 5 lines (now line) chain node spot (now asked) × (spot ≤ chain) × UnitedBytes many (now united) ⌝ }
-    ensures { λ r. ⌜ WroteLines (now (out .entry)) (now (out .exit)) at (chainLinesOf (now (line .entry)) chain (keyIn (now (asked .entry))) (pathsOf many (now (united .entry))) node spot lines) r ⌝ }
+    requires { ⌜ StepFits (now out) (place .at) 5 (place .lines) (now line) (step .chain) (step .node) (step .spot) (now asked) × (step .spot ≤ step .chain) × UnitedBytes many (now united) ⌝ }
+    ensures { λ r. ⌜ WroteLines (now (out .entry)) (now (out .exit)) (place .at) (chainLinesOf (now (line .entry)) (step .chain) (keyIn (now (asked .entry))) (pathsOf many (now (united .entry))) (step .node) (step .spot) (place .lines)) r ⌝ }
 {
-    let next = write_meeting(out, at, lines, line, chain, node, spot, asked, many, united);
-    let last = write_part(
-        out,
-        next,
-        INTERACTION,
-        lines + 3,
-        lines + 5,
-        line,
-        node,
-        chain,
-        many,
-        united,
-    );
+    let lines = place.lines;
+    let next = write_meeting(out, place, line, step, asked, many, united);
+    let first = lines + 3;
+    let second = lines + 5;
+    let head = Head {
+        rule: INTERACTION,
+        first: first,
+        second: second,
+    };
+    let span = Span {
+        from: step.node,
+        to: step.chain,
+    };
+    let last = write_part(out, next, head, line, span, many, united);
     if holds_empty(asked) {
-        return write_along(
-            out,
-            last,
-            PREFIX_EPSILON,
-            lines + 6,
-            line,
-            node,
-            chain,
-            asked,
-        );
+        return write_along(out, last, PREFIX_EPSILON, lines + 6, line, span, asked);
     }
     last
 }
@@ -157,32 +143,18 @@ fn write_chain_lines(
 // The lines of a step from a chain node.
 pub fn write_chain(
     out: &mut [u8],
-    at: usize,
-    lines: usize,
+    place: Place,
     line: &[u8],
-    chain: usize,
-    node: usize,
-    spot: usize,
+    step: Step,
     asked: &[u8],
     cited: &[u8],
 ) -> usize
-    requires { ⌜ StepFits (now out) at 5 lines (now line) chain node spot (now asked) × (spot ≤ chain) × KeyBody (now cited) ⌝ }
-    ensures { λ r. ⌜ WroteLines (now (out .entry)) (now (out .exit)) at (chainLinesOf (now (line .entry)) chain (keyIn (now (asked .entry))) (unitedBy (keyIn (now (asked .entry))) (keyIn (now (cited .entry))) (chain - spot)) node spot lines) r ⌝ }
+    requires { ⌜ StepFits (now out) (place .at) 5 (place .lines) (now line) (step .chain) (step .node) (step .spot) (now asked) × (step .spot ≤ step .chain) × KeyBody (now cited) ⌝ }
+    ensures { λ r. ⌜ WroteLines (now (out .entry)) (now (out .exit)) (place .at) (chainLinesOf (now (line .entry)) (step .chain) (keyIn (now (asked .entry))) (unitedBy (keyIn (now (asked .entry))) (keyIn (now (cited .entry))) (step .chain - step .spot)) (step .node) (step .spot) (place .lines)) r ⌝ }
 {
     let mut buffer = [0u8; UNITED_BYTES];
-    let set = united_set(&mut buffer, asked, cited, chain - spot);
+    let set = united_set(&mut buffer, asked, cited, step.chain - step.spot);
     let many = set.count;
     let used = set.used;
-    write_chain_lines(
-        out,
-        at,
-        lines,
-        line,
-        chain,
-        node,
-        spot,
-        asked,
-        many,
-        &buffer[..used],
-    )
+    write_chain_lines(out, place, line, step, asked, many, &buffer[..used])
 }

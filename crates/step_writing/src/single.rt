@@ -1,4 +1,5 @@
 // One proof line with a set that is made for it. `line` is a line of the asked key (ARGUMENT, section 4).
+use line_writing::Head;
 use line_writing::put_number;
 use line_writing::put_path;
 use line_writing::write_line;
@@ -6,47 +7,43 @@ use set_writing::SET_BYTES;
 use set_writing::UNITED_BYTES;
 use set_writing::insert_path;
 use set_writing::put_front;
-use shapes::bodies::after_path;
-use shapes::bodies::lead_path;
 use shapes::keys::count;
 use shapes::keys::paths;
+use shapes::limits::NO_NUMBER;
+use shapes::limits::SUBNODES;
+use shapes::limits::SUPERKEY;
 use writing::put;
-ghost use mathlib.Core.Path.{_≡_};
-ghost use mathlib.Core.Bool.{true};
 ghost use mathlib.Core.List.{[], _∷_};
-ghost use Prim.Native.Nat.{_+_, _<_};
+ghost use Prim.Native.Nat.{_<_};
 ghost use lib.ListN.{length};
 ghost use Rattle.meaning.specs.Rules.{withEmpty};
-ghost use Rattle.meaning.specs.Records.{readKey, keyIn, isSome};
+ghost use Rattle.meaning.specs.Records.{keyIn};
 ghost use Rattle.shapes.specs.Parts.{pathsOf};
 ghost use Rattle.set_writing.specs.Fronts.{inFront};
 ghost use Rattle.theory_derive.specs.Sets.{insert};
-ghost use Rattle.theory_derive.specs.Spots.{holdsEmpty};
 ghost use Rattle.theory_derive.specs.Written.{keyOf, twoLine, oneLine};
 ghost use Rattle.step_writing.specs.Fits.{KeyBody, OfKeyFits};
 ghost use Rattle.step_writing.specs.Lines.{WroteLines};
 ghost use Rattle.step_writing.specs.Parts.{between, keyAlong, PartRoom, FrontRoom, SetFits, UnitedBytes};
 
-// "an unused premise field is 65535"
-pub const NO_NUMBER: usize = 65535;
-// The rules of 01 that a step uses.
-pub const CITED: usize = 0;
+// The part of the asked line from one symbol up to another: a line's target; its context stands before.
+pub struct Span {
+    pub from: usize,
+    pub to: usize,
+}
 
-pub const PREFIX_EPSILON: usize = 2;
+// Where a step's lines are written, and how many proof lines stand before them.
+pub struct Place {
+    pub at: usize,
+    pub lines: usize,
+}
 
-pub const SUPERKEY: usize = 3;
-
-pub const SUBNODES: usize = 4;
-
-pub const CONTEXT_PATH: usize = 5;
-
-pub const TARGET_PATH: usize = 6;
-
-pub const CONTEXT_TARGET: usize = 7;
-
-pub const SUBNODES_EPSILON: usize = 8;
-
-pub const INTERACTION: usize = 9;
+// A step from `spot` up to chain node `node`; the chain, C and T, has so many symbols.
+pub struct Step {
+    pub chain: usize,
+    pub node: usize,
+    pub spot: usize,
+}
 
 // A line with the key paths of a key.
 pub fn write_of_key(
@@ -62,46 +59,30 @@ pub fn write_of_key(
     ensures { λ r. ⌜ WroteLines (now (out .entry)) (now (out .exit)) at (oneLine rule first (keyOf (now (context .entry)) (now (target .entry)) (keyIn (now (body .entry)) .paths)) ∷ []) r ⌝ }
 {
     let many = count(body);
-    write_line(
-        out,
-        at,
-        rule,
-        first,
-        NO_NUMBER,
-        context,
-        target,
-        many,
-        paths(body),
-    )
+    let head = Head {
+        rule: rule,
+        first: first,
+        second: NO_NUMBER,
+    };
+    write_line(out, at, head, context, target, many, paths(body))
 }
 
 // A line whose context and target are read off the asked line: up to `from`, and from there up to `to`.
 pub fn write_part(
     out: &mut [u8],
     at: usize,
-    rule: usize,
-    first: usize,
-    second: usize,
+    head: Head,
     line: &[u8],
-    from: usize,
-    to: usize,
+    span: Span,
     many: usize,
     set: &[u8],
 ) -> usize
-    requires { ⌜ (rule < 256) × PartRoom (now out) at (now line) from to × SetFits many (now set) ⌝ }
-    ensures { λ r. ⌜ WroteLines (now (out .entry)) (now (out .exit)) at (twoLine rule first second (keyAlong (now (line .entry)) from to (pathsOf many (now (set .entry)))) ∷ []) r ⌝ }
+    requires { ⌜ (head .rule < 256) × PartRoom (now out) at (now line) (span .from) (span .to) × SetFits many (now set) ⌝ }
+    ensures { λ r. ⌜ WroteLines (now (out .entry)) (now (out .exit)) at (twoLine (head .rule) (head .first) (head .second) (keyAlong (now (line .entry)) (span .from) (span .to) (pathsOf many (now (set .entry)))) ∷ []) r ⌝ }
 {
-    write_line(
-        out,
-        at,
-        rule,
-        first,
-        second,
-        &line[..from],
-        &line[from..to],
-        many,
-        set,
-    )
+    let from = span.from;
+    let to = span.to;
+    write_line(out, at, head, &line[..from], &line[from..to], many, set)
 }
 
 // Such a line with the key paths of a key.
@@ -111,26 +92,19 @@ pub fn write_along(
     rule: usize,
     first: usize,
     line: &[u8],
-    from: usize,
-    to: usize,
+    span: Span,
     body: &[u8],
 ) -> usize
-    requires { ⌜ (rule < 256) × PartRoom (now out) at (now line) from to × KeyBody (now body) ⌝ }
-    ensures { λ r. ⌜ WroteLines (now (out .entry)) (now (out .exit)) at (oneLine rule first (keyAlong (now (line .entry)) from to (keyIn (now (body .entry)) .paths)) ∷ []) r ⌝ }
+    requires { ⌜ (rule < 256) × PartRoom (now out) at (now line) (span .from) (span .to) × KeyBody (now body) ⌝ }
+    ensures { λ r. ⌜ WroteLines (now (out .entry)) (now (out .exit)) at (oneLine rule first (keyAlong (now (line .entry)) (span .from) (span .to) (keyIn (now (body .entry)) .paths)) ∷ []) r ⌝ }
 {
     let many = count(body);
-    write_part(
-        out,
-        at,
-        rule,
-        first,
-        NO_NUMBER,
-        line,
-        from,
-        to,
-        many,
-        paths(body),
-    )
+    let head = Head {
+        rule: rule,
+        first: first,
+        second: NO_NUMBER,
+    };
+    write_part(out, at, head, line, span, many, paths(body))
 }
 
 // "rule 4": the rest of the line is the one key path.
@@ -147,18 +121,13 @@ pub fn write_one(
 {
     let mut one = [0u8; 32];
     let used = put_path(&mut one, 0, &line[to..]);
-    write_part(
-        out,
-        at,
-        SUBNODES,
-        first,
-        NO_NUMBER,
-        line,
-        from,
-        to,
-        1,
-        &one[..used],
-    )
+    let head = Head {
+        rule: SUBNODES,
+        first: first,
+        second: NO_NUMBER,
+    };
+    let span = Span { from: from, to: to };
+    write_part(out, at, head, line, span, 1, &one[..used])
 }
 
 // A line with the set {empty, the rest of the line}.
@@ -179,18 +148,13 @@ pub fn write_pair(
     let set = insert_path(&mut buffer, 1, behind, &line[to..]);
     let many = set.count;
     let used = set.used;
-    write_part(
-        out,
-        at,
-        rule,
-        first,
-        NO_NUMBER,
-        line,
-        from,
-        to,
-        many,
-        &buffer[..used],
-    )
+    let head = Head {
+        rule: rule,
+        first: first,
+        second: NO_NUMBER,
+    };
+    let span = Span { from: from, to: to };
+    write_part(out, at, head, line, span, many, &buffer[..used])
 }
 
 // "rule 3: S_s with e"
@@ -212,65 +176,40 @@ pub fn write_with_empty(
     let set = insert_path(&mut buffer, count(body), behind, &bytes[..0]);
     let many = set.count;
     let used = set.used;
-    write_part(
-        out,
-        at,
-        SUPERKEY,
-        first,
-        NO_NUMBER,
-        line,
-        from,
-        to,
-        many,
-        &buffer[..used],
-    )
+    let head = Head {
+        rule: SUPERKEY,
+        first: first,
+        second: NO_NUMBER,
+    };
+    let span = Span { from: from, to: to };
+    write_part(out, at, head, line, span, many, &buffer[..used])
 }
 
-// "rule 3: (A', (norm (C++T)[i..k], F.U))": F, the line from `to` up to `chain`, in front of each key path.
+// "rule 3: (A', (norm (C++T)[i..k], F.U))": F, the line from the spot up to t, in front of each key path.
 pub fn write_fronted(
     out: &mut [u8],
     at: usize,
     first: usize,
     line: &[u8],
-    from: usize,
-    to: usize,
-    chain: usize,
+    step: Step,
     many: usize,
     set: &[u8],
 ) -> usize
-    requires { ⌜ PartRoom (now out) at (now line) from to × FrontRoom (now line) to chain × UnitedBytes many (now set) ⌝ }
-    ensures { λ r. ⌜ WroteLines (now (out .entry)) (now (out .exit)) at (oneLine 3 first (keyAlong (now (line .entry)) from to (inFront (between to chain (now (line .entry))) (pathsOf many (now (set .entry))))) ∷ []) r ⌝ }
+    requires { ⌜ PartRoom (now out) at (now line) (step .node) (step .spot) × FrontRoom (now line) (step .spot) (step .chain) × UnitedBytes many (now set) ⌝ }
+    ensures { λ r. ⌜ WroteLines (now (out .entry)) (now (out .exit)) at (oneLine 3 first (keyAlong (now (line .entry)) (step .node) (step .spot) (inFront (between (step .spot) (step .chain) (now (line .entry))) (pathsOf many (now (set .entry))))) ∷ []) r ⌝ }
 {
     let mut buffer = [0u8; SET_BYTES];
-    let used = put_front(&mut buffer, &line[to..chain], many, set);
-    write_part(
-        out,
-        at,
-        SUPERKEY,
-        first,
-        NO_NUMBER,
-        line,
-        from,
-        to,
-        many,
-        &buffer[..used],
-    )
-}
-
-// S holds the empty path.
-pub fn holds_empty(body: &[u8]) -> bool
-    requires { ⌜ isSome (readKey (now body)) ≡ true ⌝ }
-    ensures { λ r. ⌜ r ≡ holdsEmpty (keyIn (now (body .entry))) ⌝ }
-{
-    let mut rest = paths(body);
-    let mut left = count(body);
-    while 0 < left {
-        if lead_path(rest).len() == 0 {
-            return true;
-        }
-        let next = after_path(rest);
-        rest = next;
-        left -= 1;
-    }
-    false
+    let spot = step.spot;
+    let chain = step.chain;
+    let used = put_front(&mut buffer, &line[spot..chain], many, set);
+    let head = Head {
+        rule: SUPERKEY,
+        first: first,
+        second: NO_NUMBER,
+    };
+    let span = Span {
+        from: step.node,
+        to: spot,
+    };
+    write_part(out, at, head, line, span, many, &buffer[..used])
 }

@@ -1,12 +1,12 @@
 -- Rule 7 as a test: "X and Y exist with X.Y = T; gives (C.X, (Y, S)). A single `_*` may split into two." Y is the new target, so it ends T,
 -- and X is what stands before it, or that and the any-path with which Y begins.
-use Prim.Native.Nat.{ℕ, zero, suc, _+_, _-_, _≤_}
+use Prim.Native.Nat.{ℕ, zero, suc, _-_}
 use mathlib.Core.Path.{_≡_, refl, sym, _∙_, ap, ap₂, subst}
 use mathlib.Core.Logic.{_⊎_, inl, inr, ⊎-elim}
 use mathlib.Core.Bool.{Bool, true, false, _&&_, _||_}
-use mathlib.Core.List.{List, [], _∷_, _++_, append-assoc}
+use mathlib.Core.List.{List, [], _∷_, _++_}
 use native.Mathlib.Omega.{arith}
-use lib.Dec.{T, leb, leb→le, le→leb}
+use lib.Dec.{T, leb, le→leb}
 use lib.ListN.{length, take, drop, take-append-drop, length-append}
 use lib.Seq.{take-append-seam, drop-append-seam}
 use Rattle.meaning.specs.Limits.{KeyLimits}
@@ -15,7 +15,7 @@ use Rattle.meaning.specs.Paths.{Label, norm, normal, join}
 use Rattle.meaning.specs.Keys.{Key}
 use Rattle.meaning.specs.Rules.{ContextTarget}
 use Rattle.theory_paths.specs.Bools.{and-left, and-right, both, or-cases, or-left, or-right, same-eq, eq-same}
-use Rattle.theory_paths.specs.Normal.{norm-normal, norm-of-normal, norm-append-left, norm-append-right}
+use Rattle.theory_paths.specs.Normal.{norm-normal, norm-of-normal, norm-append-left, norm-append-right, norm-doubled}
 use Rattle.theory_paths.specs.Good
 use Rattle.theory_paths.specs.Good.{GoodKey}
 use Rattle.theory_lines.specs.SameParts.{sameSets, sets-eq, eq-sets}
@@ -38,12 +38,6 @@ contextTargetTest p k =
     endsPath (p .target) (k .target) && (sameSets (k .paths) (p .paths)
     && (same (k .context) (join (p .context) (beforeEnd (p .target) (k .target)))
     || startsAny (k .target) && same (k .context) (join (p .context) (beforeEnd (p .target) (k .target) ++ (0 ∷ [])))))
-
--- a doubled any-path in the middle of a path is one
-pub one-any : (m z : List ℕ) → norm ((m ++ (0 ∷ [])) ++ (0 ∷ z)) ≡ norm (m ++ (0 ∷ z))
-unfolding norm
-one-any m z =
-    ap norm (append-assoc m (0 ∷ []) (0 ∷ z)) ∙ sym (norm-append-right m (0 ∷ 0 ∷ z)) ∙ norm-append-right m (0 ∷ z)
 
 -- Two normal paths side by side are normal, or an any-path ends the first and begins the second
 pub record Meets (n y : List ℕ) : Type 0 where
@@ -105,11 +99,6 @@ is-starts : (y z : List ℕ) → y ≡ 0 ∷ z → T (startsAny y)
 unfolding startsAny
 is-starts y z e = subst (λ (l : List ℕ). T (startsAny l)) (sym e) tt
 
--- joining with a path or with its normal form is the same
-join-norm-right : (c x : List ℕ) → join c (norm x) ≡ join c x
-unfolding join
-join-norm-right c x = norm-append-right c x
-
 module _ (labels : List Label) (old new : KeyLimits) (p k : Key) (goodOld : GoodKey labels old p) (goodNew : GoodKey labels new k) where
   old-normal : norm (p .target) ≡ p .target
   old-normal = norm-of-normal (p .target) (Good.target-normal labels old p goodOld)
@@ -133,7 +122,7 @@ module _ (labels : List Label) (old new : KeyLimits) (p k : Key) (goodOld : Good
       record {
         X = beforeEnd (p .target) (k .target) ++ (0 ∷ []);
         target =
-            ap (λ (l : List ℕ). norm ((beforeEnd (p .target) (k .target) ++ (0 ∷ [])) ++ l)) (y .1) ∙ one-any (beforeEnd (p .target) (k .target)) (y .0)
+            ap (λ (l : List ℕ). norm ((beforeEnd (p .target) (k .target) ++ (0 ∷ [])) ++ l)) (y .1) ∙ norm-doubled (beforeEnd (p .target) (k .target)) (y .0)
             ∙ ap norm (sym f ∙ sym e) ∙ old-normal;
         context = same-eq _ _ (and-right (startsAny (k .target)) _ c);
         paths = s;
@@ -182,5 +171,5 @@ module _ (labels : List Label) (old new : KeyLimits) (p k : Key) (goodOld : Good
         where
           split : p .target ≡ m .front ++ k .target
           split =
-              sym whole ∙ ap₂ (λ (a b : List ℕ). norm (a ++ b)) (m .ends) (m .begins) ∙ one-any (m .front) (m .back) ∙ norm-of-normal _ (m .once)
+              sym whole ∙ ap₂ (λ (a b : List ℕ). norm (a ++ b)) (m .ends) (m .begins) ∙ norm-doubled (m .front) (m .back) ∙ norm-of-normal _ (m .once)
               ∙ ap (λ (l : List ℕ). m .front ++ l) (sym (m .begins))

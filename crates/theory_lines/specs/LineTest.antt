@@ -1,18 +1,19 @@
 -- Whether a line follows, as one test on keys; it is true exactly where the line follows.
 use Prim.Native.Nat.{ℕ, zero, suc}
 use mathlib.Core.Path.{_≡_, refl, sym, _∙_, ap, subst}
-use mathlib.Core.Bool.{Bool, true, false, _&&_}
-use mathlib.Core.List.{List, [], _∷_}
+use mathlib.Core.Bool.{Bool, false, _&&_}
+use mathlib.Core.List.{List}
 use mathlib.Core.Option.{Option, none, some}
-use lib.Dec.{T, eqb, eqb→eq, eqb-refl}
+use lib.Dec.{T, eqb, eqb→eq}
 use lib.ListN.{getElem?}
 use Rattle.meaning.specs.Limits.{KeyLimits, noNumber}
 use Rattle.meaning.specs.Lists.{Each, isEmpty, same}
 use Rattle.meaning.specs.Paths.{Label}
 use Rattle.meaning.specs.Keys.{Key}
 use Rattle.meaning.specs.Rules.{Line, Epsilon, Follows, rule0, rule1, rule2, rule3, rule4, rule5, rule6, rule7, rule8, rule9}
-use Rattle.theory_paths.specs.Bools.{and-left, and-right, both, same-eq, eq-same, eqb-of, T-cases, Each-nth}
+use Rattle.theory_paths.specs.Bools.{and-left, and-right, both, same-eq, eq-same, eqb-of, Each-nth}
 use Rattle.theory_paths.specs.Good.{GoodLabels, GoodKey}
+use Rattle.theory_paths.specs.Lists.{isEmpty-nil}
 use Rattle.theory_lines.specs.SameParts
 use Rattle.theory_lines.specs.SameParts.{sameSets, sets-eq, eq-sets, prefixEpsilonTest, superkeyTest, contextPathTest, targetPathTest}
 use Rattle.theory_lines.specs.Subnodes
@@ -106,7 +107,7 @@ module _ (labels : List Label) (known : GoodLabels labels) (proofLimits : KeyLim
       rule0 e (second-unused _ h) (s .there ∙ ap some (same-key-eq (s .premise) (l .key) (s .passes)))
   from-test (suc zero) e h =
       let h₁ = and-right (unused (l .first)) _ h in
-      rule1 e (eqb→eq _ _ (and-left (eqb (l .first) noNumber) _ h)) (second-unused _ h₁) (SameParts.empty-is (l .key .target) (and-right (unused (l .second)) _ h₁))
+      rule1 e (eqb→eq _ _ (and-left (eqb (l .first) noNumber) _ h)) (second-unused _ h₁) (isEmpty-nil (l .key .target) (and-right (unused (l .second)) _ h₁))
   from-test (suc (suc zero)) e h =
       let s = one (λ (p : Key). prefixEpsilonTest p (l .key)) h in
       rule2 e (second-unused _ h) (s .premise) (s .there) (SameParts.prefix-epsilon-of (s .premise) (l .key) (s .passes))

@@ -1,18 +1,19 @@
 -- Rules 2, 3, 5 and 6 as tests.
 use Prim.Native.Nat.{ℕ}
-use mathlib.Core.Path.{_≡_, refl, sym, _∙_, ap, ap₂, subst}
+use mathlib.Core.Path.{_≡_, refl, sym, ap₂, subst}
 use mathlib.Core.Bool.{Bool, true, false, _&&_}
 use mathlib.Core.List.{List, [], _∷_, _++_, List·Memᴰ, Memᴰ·cast}
 use lib.Dec.{T}
 use lib.ListN.{length, drop}
 use Rattle.meaning.specs.Limits.{KeyLimits}
-use Rattle.meaning.specs.Lists.{Each, every, any, isEmpty, same}
+use Rattle.meaning.specs.Lists.{every, any, isEmpty, same}
 use Rattle.meaning.specs.Paths.{Label, member, Included}
 use Rattle.meaning.specs.Keys.{Key}
 use Rattle.meaning.specs.Rules.{BeginsSome, PrefixEpsilon, Superkey, ContextPath, TargetPath}
 use Rattle.theory_paths.specs.Bools.{and-left, and-right, both, every-each, each-every, any-some, some-any, Each-at, Each-of, same-eq, eq-same}
 use Rattle.theory_paths.specs.Good
 use Rattle.theory_paths.specs.Good.{GoodLabels, GoodKey, included-good}
+use Rattle.theory_paths.specs.Lists.{isEmpty-nil}
 use Rattle.theory_lines.specs.Beginnings.{begins, begins-split, begins-append}
 
 unfoldable pub sameContext : Key → Key → Bool
@@ -38,17 +39,12 @@ prefixEpsilonTest p k = sameContext p k && (sameTarget p k && (holdsEmpty p && (
 unfoldable pub superkeyTest : Key → Key → Bool
 superkeyTest p k = sameContext p k && (sameTarget p k && allAmong p k)
 
-pub empty-is : (p : List ℕ) → T (isEmpty p) → p ≡ []
-unfolding isEmpty
-empty-is [] h = refl
-empty-is (s ∷ p) h = absurd h
-
 pub is-empty : (p : List ℕ) → p ≡ [] → T (isEmpty p)
 unfolding isEmpty
 is-empty p e = subst (λ (q : List ℕ). T (isEmpty q)) (sym e) tt
 
 pub empty-among : (ps : List (List ℕ)) → T (any isEmpty ps) → List·Memᴰ [] ps
-empty-among ps h = let s = any-some isEmpty ps h in Memᴰ·cast (sym (empty-is (s .0) (s .2))) (s .1)
+empty-among ps h = let s = any-some isEmpty ps h in Memᴰ·cast (sym (isEmpty-nil (s .0) (s .2))) (s .1)
 
 pub among-empty : (ps : List (List ℕ)) → List·Memᴰ [] ps → T (any isEmpty ps)
 unfolding isEmpty

@@ -1,21 +1,21 @@
 -- Rules 4 and 8 as tests: the premise's target goes on, by a simple path, behind the new target.
-use Prim.Native.Nat.{ℕ, zero, suc, _-_}
+use Prim.Native.Nat.{ℕ, _-_}
 use mathlib.Core.Path.{_≡_, refl, sym, _∙_, ap, ap₂, subst}
-use mathlib.Core.Bool.{Bool, true, false, _&&_}
-use mathlib.Core.List.{List, [], _∷_, _++_, List·Memᴰ, List·Memᴰ·head, List·Memᴰ·tail}
-use native.Mathlib.Omega.{arith}
-use lib.Dec.{T, eqb, eqb→eq, eqb-refl}
+use mathlib.Core.Bool.{Bool, _&&_}
+use mathlib.Core.List.{List, [], _∷_, _++_, List·Memᴰ, List·Memᴰ·head}
+use lib.Dec.{T}
 use lib.ListN.{length, drop, getD}
 use lib.Seq.{drop-append-seam}
 use Rattle.meaning.specs.Limits.{KeyLimits}
 use Rattle.meaning.specs.Lists.{same}
-use Rattle.meaning.specs.Paths.{Label, simple, normal, join}
+use Rattle.meaning.specs.Paths.{Label, simple, join}
 use Rattle.meaning.specs.Keys.{Key}
 use Rattle.meaning.specs.Rules.{Subnodes, SubnodesEpsilon, withEmpty}
 use Rattle.theory_paths.specs.Bools.{and-left, and-right, both, same-eq, eq-same}
 use Rattle.theory_paths.specs.Simple.{join-simple, join-simples}
 use Rattle.theory_paths.specs.Good
 use Rattle.theory_paths.specs.Good.{GoodKey}
+use Rattle.theory_paths.specs.Lists.{with-empty-path, with-empty-last}
 use Rattle.theory_lines.specs.Beginnings.{begins, begins-split, begins-append}
 use Rattle.theory_lines.specs.SameParts.{sameContext, sameSets, sets-eq, eq-sets}
 
@@ -41,16 +41,6 @@ subnodesTest p k =
 unfoldable pub subnodesEpsilonTest : Key → Key → Bool
 subnodesEpsilonTest p k =
     sameContext p k && (goesOn p k && (sameSets (p .paths) (withEmpty (lastPath p)) && sameSets (k .paths) (withEmpty (further p k ++ lastPath p))))
-
-last-of-with-empty : (s : List ℕ) → getD (withEmpty s) (length (withEmpty s) - 1) [] ≡ s
-unfolding withEmpty
-last-of-with-empty [] = refl
-last-of-with-empty (x ∷ s) = refl
-
-in-with-empty : (s : List ℕ) → List·Memᴰ s (withEmpty s)
-unfolding withEmpty
-in-with-empty [] = List·Memᴰ·head refl
-in-with-empty (x ∷ s) = List·Memᴰ·tail (List·Memᴰ·head refl)
 
 module _ (labels : List Label) (old new : KeyLimits) (p k : Key) (goodOld : GoodKey labels old p) (goodNew : GoodKey labels new k) where
   simple-of : (s : List ℕ) (set : List (List ℕ)) → p .paths ≡ set → List·Memᴰ s set → T (simple s)
@@ -128,7 +118,7 @@ module _ (labels : List Label) (old new : KeyLimits) (p k : Key) (goodOld : Good
         old = e;
         new =
             sets-eq _ _ (and-right (sameSets (p .paths) (withEmpty (lastPath p))) _ h₂)
-            ∙ ap withEmpty (sym (join-simples (further p k) (lastPath p) sP (simple-of (lastPath p) _ e (in-with-empty (lastPath p)))));
+            ∙ ap withEmpty (sym (join-simples (further p k) (lastPath p) sP (simple-of (lastPath p) _ e (with-empty-path (lastPath p)))));
       }
 
   pub of-subnodes-epsilon : SubnodesEpsilon p k → T (subnodesEpsilonTest p k)
@@ -136,10 +126,10 @@ module _ (labels : List Label) (old new : KeyLimits) (p k : Key) (goodOld : Good
   of-subnodes-epsilon r =
       let f = further-is (r .P) (r .isSimple) (r .target) in
       let o : getD (p .paths) (length (p .paths) - 1) [] ≡ r .s =
-      ap (λ (ps : List (List ℕ)). getD ps (length ps - 1) []) (r .old) ∙ last-of-with-empty (r .s) in
+      ap (λ (ps : List (List ℕ)). getD ps (length ps - 1) []) (r .old) ∙ with-empty-last (r .s) in
       both (same (k .context) (p .context)) _ (eq-same _ _ (r .context))
       (both (goesOn p k) _ (goes-on-of (r .P) (r .isSimple) (r .target))
       (both (sameSets (p .paths) (withEmpty (getD (p .paths) (length (p .paths) - 1) []))) _ (eq-sets _ _ (r .old ∙ ap withEmpty (sym o)))
       (eq-sets _ _
       (r .new
-      ∙ ap withEmpty (join-simples (r .P) (r .s) (r .isSimple) (simple-of (r .s) _ (r .old) (in-with-empty (r .s))) ∙ ap₂ _++_ (sym f) (sym o))))))
+      ∙ ap withEmpty (join-simples (r .P) (r .s) (r .isSimple) (simple-of (r .s) _ (r .old) (with-empty-path (r .s))) ∙ ap₂ _++_ (sym f) (sym o))))))

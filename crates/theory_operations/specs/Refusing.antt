@@ -2,7 +2,7 @@
 use Prim.Native.Nat.{ℕ, zero, suc, _≤_, _<_}
 use mathlib.Core.Path.{_≡_, refl, sym, _∙_, ap, subst}
 use mathlib.Core.Bool.{Bool, true, false, cond}
-use mathlib.Core.List.{List, [], _∷_}
+use mathlib.Core.List.{List, [], _∷_, _++_}
 use native.Mathlib.Omega.{arith}
 use lib.Dec.{eqb}
 use borrow.Author.Tests.{le-ltb, lt-ltb, eq-eqb, ne-eqb}
@@ -107,6 +107,23 @@ first-named r s rs settled e named = first-stops s rs (named-refuses r s settled
 pub sound-number : {s : Refusal} → sound ≡ s → s .number ≡ 0
 sound-number e = ap (λ (x : Refusal). x .number) (sym e)
 
+-- what is said behind a sound input is said with it
+pub unless-passes : (r : Refusal) (rs : List Refusal) (buffer : List ℕ) (Q : Answer → Type 0) (answer : Answer) → r .number ≡ 0 → Unless rs buffer Q answer
+    → Unless (r ∷ rs) buffer Q answer
+unfolding Unless
+unless-passes r rs buffer Q answer e u =
+    subst (λ (x : Refusal). choose (x .number) (Q answer) (answer ≡ refusedBy x buffer)) (sym (first-passes r rs e)) u
+
+-- the first refusal of some inputs, which names one, is the first with more behind them
+pub first-more : (rs more : List Refusal) (r : Refusal) → firstRefusal rs ≡ r → 0 < r .input → firstRefusal (rs ++ more) ≡ r
+unfolding firstRefusal
+first-more [] more r e named = let i : r .input ≡ 0 = ap (λ (x : Refusal). x .input) (sym e) in absurd (omega arith)
+first-more (s ∷ rs) more r e named = go (eqb (s .number) 0) e (λ h. first-more rs more r h named)
+  where
+    go : (b : Bool) → cond b (firstRefusal rs) s ≡ r → (firstRefusal rs ≡ r → firstRefusal (rs ++ more) ≡ r) → cond b (firstRefusal (rs ++ more)) s ≡ r
+    go true h behind = behind h
+    go false h behind = h
+
 -- 14, before all else
 pub unless-small : (rs : List Refusal) (buffer : List ℕ) (Q : Answer → Type 0) → length buffer < 65536
     → Unless (answerRefusal buffer ∷ rs) buffer Q (refusedBy (record { number = 14; input = 4; place = 0 }) buffer)
@@ -114,3 +131,8 @@ unless-small rs buffer Q h =
     let e = answer-small buffer h in
     unless-refused (answerRefusal buffer ∷ rs) buffer Q (record { number = 14; input = 4; place = 0 })
     (first-stops (answerRefusal buffer) rs (λ z. let n : 14 ≡ 0 = sym (ap (λ (r : Refusal). r .number) e) ∙ z in omega arith) ∙ e) (omega arith)
+
+-- 14 does not stand where the buffer has room
+pub unless-room : (rs : List Refusal) (buffer : List ℕ) (Q : Answer → Type 0) (answer : Answer) → 65536 ≤ length buffer → Unless rs buffer Q answer
+    → Unless (answerRefusal buffer ∷ rs) buffer Q answer
+unless-room rs buffer Q answer room u = unless-passes (answerRefusal buffer) rs buffer Q answer (answer-large buffer room) u

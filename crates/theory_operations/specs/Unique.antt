@@ -1,20 +1,20 @@
 -- "Each public operation's contract determines result and final buffer contents for all inputs, refused ones too, and this uniqueness is
 -- proved." Each theorem is over the definition that the operation's `ensures` cites: two answers that meet it are equal.
-use Prim.Native.Nat.{ℕ, zero, suc, _≤_, _<_, _-_}
-use mathlib.Core.Path.{_≡_, refl, sym, _∙_, ap, ap₂, subst}
-use mathlib.Core.Logic.{_⊎_, inl, inr, ⊎-elim}
+use Prim.Native.Nat.{ℕ, zero, suc, _<_}
+use mathlib.Core.Path.{_≡_, sym, _∙_, ap, ap₂, subst}
+use mathlib.Core.Logic.{_⊎_, inl, inr}
 use mathlib.Core.Bool.{Bool}
-use mathlib.Core.List.{List, [], _∷_, List·Memᴰ}
-use mathlib.Core.Option.{Option, none, some, Option·some-injective}
+use mathlib.Core.List.{List, [], _∷_}
+use mathlib.Core.Option.{Option·some-injective}
 use native.Mathlib.Omega.{arith}
 use native.Mathlib.Decide.{decLt}
-use lib.ListN.{length, take, drop, getElem?}
+use lib.ListN.{length, getElem?}
 use Rattle.theory_paths.specs.Bools.{Each-nth, Each-below}
-use Rattle.meaning.specs.Keys.{Key, Keeps, Breaks, Implied}
+use Rattle.meaning.specs.Keys.{Key, Keeps}
 use Rattle.theory_trees.specs.Witness.{shows-breaks, first-unique}
-use Rattle.meaning.specs.Rules.{Line, FollowsAt, FollowsBelow, EndsWith}
+use Rattle.meaning.specs.Rules.{Line, FollowsAt, FollowsBelow}
 use Rattle.meaning.specs.Refusals.{Refusal, Walked, firstRefusal}
-use Rattle.meaning.specs.Pattern.{IsU, Leads}
+use Rattle.meaning.specs.Pattern.{IsU}
 use Rattle.meaning.specs.Paths
 use Rattle.meaning.specs.Refusals
 use Rattle.meaning.specs.Pattern

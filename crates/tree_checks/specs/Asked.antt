@@ -17,12 +17,12 @@ use Rattle.meaning.specs.Keys.{Key, Breaks, Keeps, FirstWitness}
 use Rattle.meaning.specs.Records.{recordBody, recordKind, keyIn}
 use Rattle.meaning.specs.Refusals.{firstEntry, nodesIn, questionIn}
 use Rattle.meaning.specs.Refusals
-use Rattle.meaning.specs.Operations.{TestsTree, ChecksCounterexample, refusedBy, plain, shown, brokenBy, kept, broken, accepted, secondIn, labelsIn, keysIn, recordsFrom, treeIn, KeepsIn, FirstIn}
+use Rattle.meaning.specs.Operations.{treeRefusals, TestsTree, ChecksCounterexample, refusedBy, plain, shown, brokenBy, kept, broken, accepted, secondIn, labelsIn, keysIn, recordsFrom, treeIn, KeepsIn, FirstIn}
 use Rattle.meaning.specs.Operations.CounterexampleJudged.{breaksKey, keepsQuestion, refutes}
 use Rattle.shapes.specs.Classes.{Tabled, classBy}
 use Rattle.theory_paths.specs.Bools.{each-every}
 use Rattle.theory_paths.specs.Good
-use Rattle.theory_derive.specs.Logic.{getD-mem}
+use Rattle.theory_paths.specs.Lists.{getD-mem}
 use Rattle.theory_operations.specs.Refusing.{unless-sound, sound-number}
 use Rattle.theory_records.specs.Heads.{Whole}
 use Rattle.theory_records.specs.Encodings.{ends-key}
@@ -30,20 +30,22 @@ use Rattle.theory_records.specs.Bodies.{records-add}
 use Rattle.theory_records.specs.Profiles.{accepted-labels}
 use Rattle.theory_records.specs.Places.{KeyPlace, key-place}
 use Rattle.theory_records.specs.Questions.{question-accepts}
-use Rattle.theory_files.specs.Files.{class-same, file-table, tree-bytes}
-use Rattle.judged.specs.declared.Judged.{Judged}
+use Rattle.tree_nodes.specs.Files.{class-same, file-table, tree-bytes}
 use Rattle.answers.specs.declared.Outcome.{Outcome}
 use Rattle.answers.specs.declared.Outcome.the-variants as O
 use Rattle.answers.specs.declared.Refusal.{Refusal}
 use Rattle.answers.specs.declared.Witness.{Witness}
-use Rattle.answers.specs.Cases.{outcomeOf, meant, numbersOf}
-use Rattle.records.specs.ProfileWalks.{ProfileSays}
+use Rattle.answers.specs.declared.Keeping.the-variants as K
+use Rattle.answers.specs.declared.Countering.the-variants as N
+use Rattle.answers.specs.Cases.{meant, numbersOf, Padded, KeepingPadded, CounteringPadded}
+use Rattle.records.specs.Accepted.{GivenProfile}
 use Rattle.tree_nodes.specs.FileTable.{fileTable, TreeBytes}
 use Rattle.key_groups.specs.GoodKey.{GoodKey}
-use Rattle.checks.specs.Found.{ReadyIn, Tables, ready-in, fine-is}
-use Rattle.tree_checks.specs.Inputs.{Passes, BothSay, none-refuses, profile-refuses, both-refuse}
+use Rattle.acceptance.specs.Taken.{ProfileTaken, ReadyIn, Tables, ready-in, profile-stops}
+use Rattle.tree_checks.specs.Inputs.{Passes, BothSay, none-refuses, both-refuse}
 use Rattle.tree_checks.specs.declared.keys.Tested.{Tested}
 use Rattle.tree_checks.specs.declared.keys.Tested.the-variants as T
+use Rattle.tree_witness.specs.Pairs.{FirstShown}
 use Rattle.tree_checks.specs.ProfileKeys.{keyBodyAt, KeyBodies, KeyTested, tested-broken, tested-kept, LowestBroken}
 
 -- An accepted question and an accepted tree under a class table
@@ -51,23 +53,11 @@ pub record Asked (second : Bool) (question tree classes : List ℕ) : Type 0 whe
   pub tables : Tables classes
   pub passes : (labels : List Label) → Tabled labels classes → Passes second labels question tree
 
--- An accepted profile with its class table, its edition and its counts
-pub record Counted (profile classes : List ℕ) (second : Bool) (before keys : ℕ) : Type 0 where
-  pub ready : ReadyIn profile classes second
-  pub beforeKeys : before ≡ firstEntry profile + length (labelsIn profile)
-  pub keyCount : keys ≡ length (keysIn profile)
-
 pub asked-of : {second : Bool} {question tree classes : List ℕ} → Tables classes → {o : Outcome} → BothSay second question tree classes o → o ≡ O.Fine
     → Asked second question tree classes
 unfolding BothSay
 asked-of {second} {question} {tree} {classes} tables says k =
     record { tables = tables; passes = subst (BothSay second question tree classes) k says }
-
-pub counted-of : {profile classes : List ℕ} {judged : Judged} {second : Bool} {labels keys : ℕ} → ProfileSays profile judged classes second labels keys → {o : Outcome}
-    → o ≡ outcomeOf 1 judged → o ≡ O.Fine → Counted profile classes second labels keys
-counted-of says e k =
-    let z = sound-number (fine-is says e k) in
-    record { ready = ready-in says e k; beforeKeys = says .beforeKeys z; keyCount = says .keyCount z }
 
 -- a key record that was accepted has the body of a key
 key-body : (labels : List Label) (l : List ℕ) → Whole l → recordKind l ≡ 2 → Good.GoodKey labels inProfile (keyIn (recordBody l))
@@ -126,7 +116,7 @@ module _ {second : Bool} {question tree classes : List ℕ} (asked : Asked secon
       first-of-question : {w : Witness} → r ≡ T.Broken w → FirstIn profile tree (questionIn question) (numbersOf w)
       unfolding questionIn
       first-of-question {w} e =
-          subst (λ (b : List ℕ). FirstIn profile tree (keyIn b) (numbersOf w)) isBody (first-in (keyIn body) (tested-broken tested e))
+          subst (λ (b : List ℕ). FirstIn profile tree (keyIn b) (numbersOf w)) isBody (first-in (keyIn body) (tested-broken tested e .first))
 
       keeps-question : r ≡ T.Kept → KeepsIn profile tree (questionIn question)
       unfolding questionIn
@@ -152,7 +142,7 @@ each-front zero xs h = end
 each-front (suc n) [] h = end
 each-front (suc n) (x ∷ xs) h = also (h zero x (omega arith) refl) (each-front n xs (λ i y l e. h (suc i) y (omega arith) e))
 
-module _ {profile classes : List ℕ} {second : Bool} {labels keys : ℕ} (counted : Counted profile classes second labels keys) {part : List ℕ}
+module _ {profile classes : List ℕ} {second : Bool} {labels keys : ℕ} (counted : GivenProfile profile second labels keys classes) {part : List ℕ}
     (isPart : part ≡ recordsFrom labels profile) where
   body-place : (n : ℕ) → keyBodyAt part n ≡ recordBody (recordsFrom (firstEntry profile + length (labelsIn profile) + n) profile)
   unfolding keyBodyAt
@@ -181,7 +171,7 @@ module _ {profile classes : List ℕ} {second : Bool} {labels keys : ℕ} (count
         (λ i key l e.
         subst (KeepsIn profile tree)
         (Option·some-injective (keyIn (keyBodyAt part i)) key (sym (key-at i (let w = lowest .within in omega arith)) ∙ e))
-        (keeps-in asked (counted .ready) (keyIn (keyBodyAt part i)) (lowest .below .each i l)))
+        (keeps-in asked (ready-in counted) (keyIn (keyBodyAt part i)) (lowest .below .each i l)))
 
     all-kept : keys ≤ r → Each (KeepsIn profile tree) (keysIn profile)
     all-kept h =
@@ -190,46 +180,73 @@ module _ {profile classes : List ℕ} {second : Bool} {labels keys : ℕ} (count
         let e : r ≡ length (keysIn profile) = omega arith in
         subst (Each (KeepsIn profile tree)) (ap (λ (n : ℕ). take n (keysIn profile)) e ∙ take-length (keysIn profile)) front-kept
 
-    pub breaks-key : r < keys → (w : Witness) → FirstWitness (classBy classes) (fileTable tree) (keyIn (keyBodyAt part r)) (numbersOf w)
+    pub breaks-key : r < keys → (w : Witness) → FirstShown (classBy classes) (fileTable tree) (keyIn (keyBodyAt part r)) w
         → ChecksCounterexample profile question tree (brokenBy r (numbersOf w))
     unfolding ChecksCounterexample
     breaks-key h w first =
-        unless-sound _ [] _ _ (none-refuses _ _ (counted .ready) (here asked (counted .ready)))
-        (breaksKey r (keyIn (keyBodyAt part r)) (key-at r h) front-kept (numbersOf w) (first-in asked (counted .ready) _ first) refl)
+        unless-sound _ [] _ _ (none-refuses _ _ (ready-in counted) (here asked (ready-in counted)))
+        (breaksKey r (keyIn (keyBodyAt part r)) (key-at r h) front-kept (numbersOf w) (first-in asked (ready-in counted) _ (first .first)) refl)
 
     module _ (all : keys ≤ r) {body : List ℕ} (isBody : body ≡ recordBody question) {tested : Tested}
         (so : KeyTested (classBy classes) (fileTable tree) (keyIn body) tested) where
       pub counterexample : {w : Witness} → tested ≡ T.Broken w → ChecksCounterexample profile question tree (shown accepted (numbersOf w))
       unfolding ChecksCounterexample
       counterexample {w} e =
-          unless-sound _ [] _ _ (none-refuses _ _ (counted .ready) (here asked (counted .ready)))
-          (refutes (all-kept all) (numbersOf w) (first-of-question asked (counted .ready) isBody so e) refl)
+          unless-sound _ [] _ _ (none-refuses _ _ (ready-in counted) (here asked (ready-in counted)))
+          (refutes (all-kept all) (numbersOf w) (first-of-question asked (ready-in counted) isBody so e) refl)
 
       pub keeps-all : tested ≡ T.Kept → {r : Refusal} → meant r ≡ record { number = 13; input = 3; place = 0 }
           → ChecksCounterexample profile question tree (refusedBy (meant r) [])
       unfolding ChecksCounterexample
       keeps-all e named =
-          unless-sound _ [] _ _ (none-refuses _ _ (counted .ready) (here asked (counted .ready)))
-          (keepsQuestion (all-kept all) (keeps-question asked (counted .ready) isBody so e) (ap (λ (x : Refusals.Refusal). refusedBy x []) named))
+          unless-sound _ [] _ _ (none-refuses _ _ (ready-in counted) (here asked (ready-in counted)))
+          (keepsQuestion (all-kept all) (keeps-question asked (ready-in counted) isBody so e) (ap (λ (x : Refusals.Refusal). refusedBy x []) named))
 
 -- the refusals of either operation
-pub tests-profile-stops : {profile classes : List ℕ} {judged : Judged} {second : Bool} {labels keys : ℕ} → ProfileSays profile judged classes second labels keys → {o : Outcome}
-    → o ≡ outcomeOf 1 judged → {r : Refusal} (question tree : List ℕ) → o ≡ O.Refused r → TestsTree profile question tree (refusedBy (meant r) [])
-unfolding TestsTree
-tests-profile-stops says e question tree k = profile-refuses says e question tree _ k
+pub tests-profile-stops : {profile classes : List ℕ} {o : Outcome} {second : Bool} {before keys : ℕ} → ProfileTaken profile o classes second before keys
+    → {r : Refusal} (question tree : List ℕ) → o ≡ O.Refused r → TestsTree profile question tree (refusedBy (meant r) [])
+unfolding TestsTree treeRefusals
+tests-profile-stops taken question tree k = profile-stops taken _ [] _ k
 
 pub tests-both-stop : {second : Bool} (question tree : List ℕ) {classes : List ℕ} {o : Outcome} → BothSay second question tree classes o → {r : Refusal} → o ≡ O.Refused r
     → (profile : List ℕ) → ReadyIn profile classes second → TestsTree profile question tree (refusedBy (meant r) [])
 unfolding TestsTree
 tests-both-stop question tree says k profile ready = both-refuse question tree ready says _ k
 
-pub checks-profile-stops : {profile classes : List ℕ} {judged : Judged} {second : Bool} {labels keys : ℕ} → ProfileSays profile judged classes second labels keys → {o : Outcome}
-    → o ≡ outcomeOf 1 judged → {r : Refusal} (question tree : List ℕ) → o ≡ O.Refused r
-    → ChecksCounterexample profile question tree (refusedBy (meant r) [])
-unfolding ChecksCounterexample
-checks-profile-stops says e question tree k = profile-refuses says e question tree _ k
+pub checks-profile-stops : {profile classes : List ℕ} {o : Outcome} {second : Bool} {before keys : ℕ} → ProfileTaken profile o classes second before keys
+    → {r : Refusal} (question tree : List ℕ) → o ≡ O.Refused r → ChecksCounterexample profile question tree (refusedBy (meant r) [])
+unfolding ChecksCounterexample treeRefusals
+checks-profile-stops taken question tree k = profile-stops taken _ [] _ k
 
-pub checks-both-stop : {second : Bool} (question tree : List ℕ) {profile classes : List ℕ} {labels keys : ℕ} → Counted profile classes second labels keys → {o : Outcome}
+pub checks-both-stop : {second : Bool} (question tree : List ℕ) {profile classes : List ℕ} {labels keys : ℕ} → GivenProfile profile second labels keys classes → {o : Outcome}
     → BothSay second question tree classes o → {r : Refusal} → o ≡ O.Refused r → ChecksCounterexample profile question tree (refusedBy (meant r) [])
 unfolding ChecksCounterexample
-checks-both-stop question tree counted says k = both-refuse question tree (counted .ready) says _ k
+checks-both-stop question tree counted says k = both-refuse question tree (ready-in counted) says _ k
+
+-- nothing stands behind the numbers of a witness that is answered
+pub padded-none : {r : Refusal} → KeepingPadded (K.Refused r)
+padded-none = record { padded = λ w e. let z : _≡_ {A = ℕ} 0 1 = cc in absurd (omega arith) }
+
+pub padded-kept : KeepingPadded K.Kept
+padded-kept = record { padded = λ w e. let z : _≡_ {A = ℕ} 0 1 = cc in absurd (omega arith) }
+
+pub padded-broken : (κ : ℕ → Class) (t : Table) (key : Key) {tested : Tested} {w : Witness} → KeyTested κ t key tested → tested ≡ T.Broken w → KeepingPadded (K.Broken w)
+padded-broken κ t key {w = w} k e = record { padded = λ v f. let same : w ≡ v = cc in subst Padded same (tested-broken k e .padded) }
+
+pub padded-refused : {r : Refusal} → CounteringPadded (N.Refused r)
+padded-refused =
+    record { accepts = λ w e. let z : _≡_ {A = ℕ} 0 1 = cc in absurd (omega arith); breaks = λ n w e. let z : _≡_ {A = ℕ} 0 1 = cc in absurd (omega arith) }
+
+pub padded-breaks : {κ : ℕ → Class} {t : Table} {key : Key} {n : ℕ} {w : Witness} → FirstShown κ t key w → CounteringPadded (N.Breaks n w)
+padded-breaks {w = w} shown =
+    record {
+      accepts = λ v e. let z : _≡_ {A = ℕ} 0 1 = cc in absurd (omega arith);
+      breaks = λ m v e. let same : w ≡ v = cc in subst Padded same (shown .padded);
+    }
+
+pub padded-accepts : (κ : ℕ → Class) (t : Table) (key : Key) {tested : Tested} {w : Witness} → KeyTested κ t key tested → tested ≡ T.Broken w → CounteringPadded (N.Accepted w)
+padded-accepts κ t key {w = w} k e =
+    record {
+      accepts = λ v f. let same : w ≡ v = cc in subst Padded same (tested-broken k e .padded);
+      breaks = λ m v f. let z : _≡_ {A = ℕ} 0 1 = cc in absurd (omega arith);
+    }

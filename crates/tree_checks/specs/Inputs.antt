@@ -1,11 +1,11 @@
 -- Question and tree under a class table: the first refusal of the two, or that both are accepted.
 use Prim.Native.Nat.{ℕ, _<_}
-use mathlib.Core.Path.{_≡_, refl, sym, _∙_, ap, subst}
+use mathlib.Core.Path.{_≡_, refl, sym, _∙_, subst}
 use mathlib.Core.Bool.{Bool}
 use mathlib.Core.List.{List, [], _∷_}
 use native.Mathlib.Omega.{arith}
 use Rattle.meaning.specs.Paths.{Label}
-use Rattle.meaning.specs.Refusals.{sound, firstRefusal, profileRefusal, questionRefusal, treeRefusal}
+use Rattle.meaning.specs.Refusals.{firstRefusal, questionRefusal, treeRefusal}
 use Rattle.meaning.specs.Operations.{Answer, Unless, refusedBy, secondIn, labelsIn, treeRefusals}
 use Rattle.shapes.specs.Classes.{Tabled}
 use Rattle.judged.specs.Answers.{refusalOf}
@@ -16,9 +16,8 @@ use Rattle.answers.specs.declared.Outcome.{Outcome}
 use Rattle.answers.specs.declared.Outcome.the-variants as O
 use Rattle.answers.specs.Cases.{meant, outcomeOf}
 use Rattle.answers.specs.Outcomes.{outcome-refused, outcome-fine}
-use Rattle.theory_operations.specs.Refusing.{unless-refused, sound-more, sound-end, first-passes, first-named, sound-number, profile-settled, question-settled, tree-settled}
-use Rattle.records.specs.ProfileWalks.{ProfileSays}
-use Rattle.checks.specs.Found.{ReadyIn, refused-is, refused-names}
+use Rattle.theory_operations.specs.Refusing.{unless-refused, sound-more, sound-end, first-passes, first-named, sound-number, question-settled, tree-settled}
+use Rattle.acceptance.specs.Taken.{ReadyIn}
 
 pub record Stops (second : Bool) (labels : List Label) (question tree : List ℕ) (r : Refusal) : Type 0 where
   pub is : firstRefusal (questionRefusal labels question ∷ treeRefusal second labels tree ∷ []) ≡ meant r
@@ -66,15 +65,6 @@ module _ (second : Bool) (question classes : List ℕ) (asked : Judged)
                 (outcome-refused 3 (J.Refused n p) refl refl .is ∙ after labels tabled) (omega arith);
             named = omega arith;
           }
-
--- the profile's refusal comes first
-pub profile-refuses : {profile classes : List ℕ} {judged : Judged} {second : Bool} {labels keys : ℕ} → ProfileSays profile judged classes second labels keys → {o : Outcome}
-    → o ≡ outcomeOf 1 judged → {r : Refusal} (question tree : List ℕ) (Q : Answer → Type 0) → o ≡ O.Refused r
-    → Unless (treeRefusals profile question tree) [] Q (refusedBy (meant r) [])
-unfolding treeRefusals
-profile-refuses {profile} says e {r} question tree Q k =
-    unless-refused _ [] Q (meant r)
-    (first-named (meant r) (profileRefusal profile) _ (profile-settled profile) (refused-is says e k) (refused-names says e k)) (refused-names says e k)
 
 module _ {profile classes : List ℕ} {second : Bool} (question tree : List ℕ) (ready : ReadyIn profile classes second) where
   pub both-refuse : {o : Outcome} → BothSay second question tree classes o → {r : Refusal} (Q : Answer → Type 0) → o ≡ O.Refused r

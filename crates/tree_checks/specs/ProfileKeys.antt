@@ -7,12 +7,12 @@ use native.Mathlib.Omega.{arith}
 use native.Mathlib.Decide.{ℕ-discrete}
 use Rattle.meaning.specs.Paths.{Class}
 use Rattle.meaning.specs.Trees.{Table}
-use Rattle.meaning.specs.Keys.{Key, Breaks, FirstWitness}
+use Rattle.meaning.specs.Keys.{Key, Breaks}
 use Rattle.meaning.specs.Records.{recordBody, keyIn}
 use Rattle.meaning.specs.Operations.{recordsFrom}
 use Rattle.theory_trees.specs.Witness.{FirstTargets}
 use Rattle.answers.specs.declared.Witness.{Witness}
-use Rattle.answers.specs.Cases.{numbersOf}
+use Rattle.tree_witness.specs.Pairs.{FirstShown}
 use Rattle.tree_nodes.specs.FileTable.{fileTable, classBy}
 use Rattle.tree_rows.specs.Prepared.{Prepared}
 use Rattle.tree_rows.specs.Hung.{HungAll}
@@ -37,10 +37,10 @@ pub record KeptBelow (κ : ℕ → Class) (t : Table) (part : List ℕ) (n : ℕ
 -- What testing a key finds is right
 unfoldable pub KeyTested : (ℕ → Class) → Table → Key → Tested → Type 0
 KeyTested κ t key T.Kept = Breaks κ t key → ⊥
-KeyTested κ t key (T.Broken w) = FirstWitness κ t key (numbersOf w)
+KeyTested κ t key (T.Broken w) = FirstShown κ t key w
 
 module _ {κ : ℕ → Class} {t : Table} {key : Key} where
-  pub tested-shows : (w : Witness) → FirstWitness κ t key (numbersOf w) → KeyTested κ t key (T.Broken w)
+  pub tested-shows : (w : Witness) → FirstShown κ t key w → KeyTested κ t key (T.Broken w)
   unfolding KeyTested
   tested-shows w first = first
 
@@ -51,7 +51,7 @@ module _ {κ : ℕ → Class} {t : Table} {key : Key} where
   unfolding KeyTested
   tested-keeps f e = f .no e
 
-  pub tested-broken : {r : Tested} {w : Witness} → KeyTested κ t key r → r ≡ T.Broken w → FirstWitness κ t key (numbersOf w)
+  pub tested-broken : {r : Tested} {w : Witness} → KeyTested κ t key r → r ≡ T.Broken w → FirstShown κ t key w
   unfolding KeyTested
   tested-broken k e = subst (KeyTested κ t key) e k
 
@@ -126,6 +126,6 @@ module _ (part : List ℕ) (n : ℕ) {rest : List ℕ} (isRest : rest ≡ record
     pub found-targets : FirstTargets (classBy classes) (fileTable tree) (keyIn body) q a b
     found-targets = subst (λ (c : List ℕ). FirstTargets (classBy classes) (fileTable tree) (keyIn c) q a b) (sym body-is) (found .targets)
 
-    pub found-witness : {numbers : List ℕ} → FirstWitness (classBy classes) (fileTable tree) (keyIn body) numbers
-        → FirstWitness (classBy classes) (fileTable tree) (keyIn (keyBodyAt part n)) numbers
-    found-witness {numbers} w = subst (λ (c : List ℕ). FirstWitness (classBy classes) (fileTable tree) (keyIn c) numbers) body-is w
+    pub found-witness : {w : Witness} → FirstShown (classBy classes) (fileTable tree) (keyIn body) w
+        → FirstShown (classBy classes) (fileTable tree) (keyIn (keyBodyAt part n)) w
+    found-witness {w} shown = subst (λ (c : List ℕ). FirstShown (classBy classes) (fileTable tree) (keyIn c) w) body-is shown

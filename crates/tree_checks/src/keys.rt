@@ -5,16 +5,16 @@ use key_groups::sorted::SORTED;
 use key_pairs::memo::MEMO;
 use key_search::search::broken_key;
 use places::record_at;
+use shapes::limits::TREE_NODES;
 use tree_rows::hung::HUNG;
 use tree_rows::rows::ROWS;
 use tree_witness::witness;
-ghost use Rattle.meaning.specs.Keys.{FirstWitness};
 ghost use Rattle.meaning.specs.Records.{keyIn};
-ghost use Rattle.answers.specs.Cases.{numbersOf};
 ghost use Rattle.tree_nodes.specs.FileTable.{fileTable, classBy};
 ghost use Rattle.tree_rows.specs.Prepared.{Prepared};
 ghost use Rattle.key_groups.specs.GoodKey.{GoodKey};
 ghost use Rattle.key_search.specs.Start.{Lent};
+ghost use Rattle.tree_witness.specs.Pairs.{FirstShown};
 ghost use Rattle.tree_checks.specs.ProfileKeys.{KeyTested, keyBodyAt, KeyBodies, LowestBroken, KeyFound};
 
 // What testing a key finds: that the tree keeps it, or the first witness.
@@ -28,7 +28,7 @@ pub fn test_key(
     classes: &[u8; 256],
     rows: &[u16; ROWS],
     body: &[u8],
-    top: &mut [u16; 4096],
+    top: &mut [u16; TREE_NODES],
     hung: &mut [u16; HUNG],
     sorted: &mut [u16; SORTED],
     memo: &mut [u16; MEMO],
@@ -69,7 +69,7 @@ pub fn first_broken(
     tree: &[u8],
     classes: &[u8; 256],
     rows: &[u16; ROWS],
-    top: &mut [u16; 4096],
+    top: &mut [u16; TREE_NODES],
     hung: &mut [u16; HUNG],
     sorted: &mut [u16; SORTED],
     memo: &mut [u16; MEMO],
@@ -111,7 +111,7 @@ pub fn witness_of(
     hung: &[u16; HUNG],
 ) -> Witness
     requires { ⌜ KeyFound (now classes) (now tree) (now rows) (now hung) (now part) (lowest .key) (lowest .context) (lowest .first) (lowest .second) ⌝ }
-    ensures { λ r. ⌜ FirstWitness (classBy (now (classes .entry))) (fileTable (now (tree .entry))) (keyIn (keyBodyAt (now (part .entry)) (lowest .key))) (numbersOf r) ⌝ }
+    ensures { λ r. ⌜ FirstShown (classBy (now (classes .entry))) (fileTable (now (tree .entry))) (keyIn (keyBodyAt (now (part .entry)) (lowest .key))) r ⌝ }
 {
     let rest = record_at(part, lowest.key);
     let body = body_at_front(rest);

@@ -7,40 +7,37 @@ use crate::keys::Tested;
 use crate::keys::first_broken;
 use crate::keys::test_key;
 use crate::keys::witness_of;
+use acceptance::accept_profile;
 use answers::Countering;
 use answers::Keeping;
 use answers::Outcome;
-use answers::PROFILE;
 use answers::Refusal;
 use answers::TREE_OR_PROOF;
-use answers::of_input;
 use checks::profiles::body_at_front;
+use judged::KEEPS_THE_QUESTION;
 use key_groups::sorted::SORTED;
 use key_pairs::memo::MEMO;
 use places::record_at;
-use records::profile::read_profile;
 use row_classes::prepare;
-use tree_nodes::fields::NODES;
+use shapes::limits::TREE_NODES;
 use tree_rows::hung::HUNG;
 use tree_rows::rows::ROWS;
 ghost use Prim.Native.Nat.{ℕ};
 ghost use mathlib.Core.Path.{_≡_};
 ghost use mathlib.Core.List.{List};
 ghost use Rattle.meaning.specs.Operations.{TestsTree, ChecksCounterexample};
-ghost use Rattle.checks.specs.Found.{ReadyIn, Tables};
-ghost use Rattle.answers.specs.Cases.{meant, keepingAnswer, counteringAnswer};
-ghost use Rattle.tree_checks.specs.Asked.{Asked, Counted};
-
-// 13: "the tree keeps the question". (12 stands in the reading of `Countering::Breaks`.)
-const KEEPS_THE_QUESTION: usize = 13;
+ghost use Rattle.acceptance.specs.Taken.{ReadyIn, Tables};
+ghost use Rattle.answers.specs.Cases.{meant, keepingAnswer, KeepingPadded, counteringAnswer, CounteringPadded};
+ghost use Rattle.records.specs.Accepted.{GivenProfile};
+ghost use Rattle.tree_checks.specs.Asked.{Asked};
 
 // The answer for an accepted question and an accepted tree. All tables are made once, here.
 fn keep_accepted(question: &[u8], tree: &[u8], classes: &[u8; 256], second: bool) -> Keeping
     requires { ⌜ Asked second (now question) (now tree) (now classes) ⌝ }
-    ensures { λ r. ⌜ ((profile : List ℕ) → ReadyIn profile (now (classes .entry)) second → TestsTree profile (now (question .entry)) (now (tree .entry)) (keepingAnswer r)) ⌝ }
+    ensures { λ r. ⌜ ((profile : List ℕ) → ReadyIn profile (now (classes .entry)) second → TestsTree profile (now (question .entry)) (now (tree .entry)) (keepingAnswer r)) × KeepingPadded r ⌝ }
 {
     let mut rows = [0u16; ROWS];
-    let mut top = [0u16; NODES];
+    let mut top = [0u16; TREE_NODES];
     let mut hung = [0u16; HUNG];
     let mut sorted = [0u16; SORTED];
     let mut memo = [0u16; MEMO];
@@ -65,7 +62,7 @@ fn keep_accepted(question: &[u8], tree: &[u8], classes: &[u8; 256], second: bool
 // The answer under an accepted profile, of which only the class table and the edition are needed.
 fn keep_under(question: &[u8], tree: &[u8], classes: &[u8; 256], second: bool) -> Keeping
     requires { ⌜ Tables (now classes) ⌝ }
-    ensures { λ r. ⌜ ((profile : List ℕ) → ReadyIn profile (now (classes .entry)) second → TestsTree profile (now (question .entry)) (now (tree .entry)) (keepingAnswer r)) ⌝ }
+    ensures { λ r. ⌜ ((profile : List ℕ) → ReadyIn profile (now (classes .entry)) second → TestsTree profile (now (question .entry)) (now (tree .entry)) (keepingAnswer r)) × KeepingPadded r ⌝ }
 {
     let outcome = read_both(question, tree, classes, second);
     match outcome {
@@ -76,13 +73,12 @@ fn keep_under(question: &[u8], tree: &[u8], classes: &[u8; 256], second: bool) -
 
 // "A tree keeps the key if ..": kept, or broken with the first witness, exactly.
 pub fn keep(profile: &[u8], question: &[u8], tree: &[u8]) -> Keeping
-    ensures { λ r. ⌜ TestsTree (now (profile .entry)) (now (question .entry)) (now (tree .entry)) (keepingAnswer r) ⌝ }
+    ensures { λ r. ⌜ TestsTree (now (profile .entry)) (now (question .entry)) (now (tree .entry)) (keepingAnswer r) × KeepingPadded r ⌝ }
 {
-    let read = read_profile(profile);
-    let judged = read.judged;
+    let read = accept_profile(profile);
+    let outcome = read.outcome;
     let classes = read.classes;
     let second = read.second;
-    let outcome = of_input(judged, PROFILE);
     match outcome {
         Outcome::Refused(refusal) => Keeping::Refused(refusal),
         Outcome::Fine => keep_under(question, tree, &classes, second),
@@ -111,11 +107,11 @@ fn check_accepted(
     classes: &[u8; 256],
     second: bool,
 ) -> Countering
-    requires { ⌜ Asked second (now question) (now tree) (now classes) × Counted (now profile) (now classes) second before keys ⌝ }
-    ensures { λ r. ⌜ ChecksCounterexample (now (profile .entry)) (now (question .entry)) (now (tree .entry)) (counteringAnswer r) ⌝ }
+    requires { ⌜ Asked second (now question) (now tree) (now classes) × GivenProfile (now profile) second before keys (now classes) ⌝ }
+    ensures { λ r. ⌜ ChecksCounterexample (now (profile .entry)) (now (question .entry)) (now (tree .entry)) (counteringAnswer r) × CounteringPadded r ⌝ }
 {
     let mut rows = [0u16; ROWS];
-    let mut top = [0u16; NODES];
+    let mut top = [0u16; TREE_NODES];
     let mut hung = [0u16; HUNG];
     let mut sorted = [0u16; SORTED];
     let mut memo = [0u16; MEMO];
@@ -164,8 +160,8 @@ fn check_under(
     classes: &[u8; 256],
     second: bool,
 ) -> Countering
-    requires { ⌜ Tables (now classes) × Counted (now profile) (now classes) second before keys ⌝ }
-    ensures { λ r. ⌜ ChecksCounterexample (now (profile .entry)) (now (question .entry)) (now (tree .entry)) (counteringAnswer r) ⌝ }
+    requires { ⌜ Tables (now classes) × GivenProfile (now profile) second before keys (now classes) ⌝ }
+    ensures { λ r. ⌜ ChecksCounterexample (now (profile .entry)) (now (question .entry)) (now (tree .entry)) (counteringAnswer r) × CounteringPadded r ⌝ }
 {
     let outcome = read_both(question, tree, classes, second);
     match outcome {
@@ -176,15 +172,14 @@ fn check_under(
 
 // Accepted exactly when the tree keeps every profile key and breaks the question, with the question's first witness.
 pub fn check_counterexample(profile: &[u8], question: &[u8], tree: &[u8]) -> Countering
-    ensures { λ r. ⌜ ChecksCounterexample (now (profile .entry)) (now (question .entry)) (now (tree .entry)) (counteringAnswer r) ⌝ }
+    ensures { λ r. ⌜ ChecksCounterexample (now (profile .entry)) (now (question .entry)) (now (tree .entry)) (counteringAnswer r) × CounteringPadded r ⌝ }
 {
-    let read = read_profile(profile);
-    let judged = read.judged;
+    let read = accept_profile(profile);
+    let outcome = read.outcome;
     let classes = read.classes;
     let second = read.second;
     let before = read.before;
     let keys = read.keys;
-    let outcome = of_input(judged, PROFILE);
     match outcome {
         Outcome::Refused(refusal) => Countering::Refused(refusal),
         Outcome::Fine => check_under(profile, before, keys, question, tree, &classes, second),

@@ -1,13 +1,12 @@
 -- A block's lines one after another.
-use Prim.Native.Nat.{ℕ, zero, suc, _+_, _-_, _*_, _<_, _≤_, min}
-use mathlib.Core.Path.{_≡_, refl, sym, _∙_, ap, ap₂, subst}
+use Prim.Native.Nat.{ℕ, suc, _+_, _-_, _*_, _<_, _≤_}
+use mathlib.Core.Path.{_≡_, sym, _∙_, ap}
 use mathlib.Core.List.{List, [], _∷_, _++_, flatten, append-assoc, append-nil}
 use native.Mathlib.Omega.{arith}
-use native.Mathlib.Numerals.{add-one}
 use native.Mathlib.Decide.{decLt}
-use lib.ListN.{length, getD, take, drop, length-append, length-take, length-drop, drop-of-length-le}
-use lib.Seq.{take-suc, getD-drop, take-all, take-nil}
-use Rattle.meaning.specs.Limits.{blockLines, treeNodes}
+use lib.ListN.{getD, take, drop, length-drop, drop-of-length-le}
+use lib.Seq.{take-suc, getD-drop, take-all}
+use Rattle.meaning.specs.Limits.{blockLines}
 use Rattle.meaning.specs.Paths.{Class}
 use Rattle.meaning.specs.Trees.{Table}
 use Rattle.tree_listing.specs.Lines.{linesOf, lineAt, blockOf, lines-at, lines-length}

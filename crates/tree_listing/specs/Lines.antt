@@ -1,21 +1,20 @@
 -- The lines of a table: those of `meaning`'s listing, over the table and the class function that the code has.
-use Prim.Native.Nat.{ℕ, zero, suc, _+_, _-_, _*_, _<_, _≤_}
-use mathlib.Core.Path.{_≡_, refl, sym, _∙_, ap, ap₂, subst, fun-ext}
+use Prim.Native.Nat.{ℕ, zero, suc, _+_, _*_, _<_, _≤_}
+use mathlib.Core.Path.{_≡_, refl, sym, _∙_, ap, fun-ext}
 use mathlib.Core.Bool.{Bool, true, false, cond, not}
 use mathlib.Core.List.{List, [], _∷_, _++_, map, flatten, append-assoc}
 use native.Mathlib.Omega.{arith}
 use native.Mathlib.Numerals.{add-one}
 use native.Mathlib.Nat.{zero-add}
 use lib.Dec.{eqb}
-use lib.ListN.{length, getD, take, drop, length-append, length-map, length-take, length-drop, List·getD-map}
-use lib.Seq.{take-suc, getD-drop, take-all}
-use borrow.Author.Tests.{eq-eqb, ne-eqb}
-use Rattle.meaning.specs.Limits.{blockLines, treeNodes}
+use lib.ListN.{length, getD, take, drop, length-append, length-map}
+use Rattle.meaning.specs.Limits.{blockLines}
 use Rattle.meaning.specs.Lists.{numbers}
 use Rattle.meaning.specs.Paths.{Class, Label, classOf, isElement}
 use Rattle.meaning.specs.Trees.{Table, Node, tableOf}
-use Rattle.meaning.specs.Listing.{decimal, space, newline, dash, firstLine, nodeLine, listing, block}
+use Rattle.meaning.specs.Listing.{decimal, dash, firstLine, nodeLine, listing, block}
 use Rattle.tree_listing.specs.Decimal.{ten-digits}
+use Rattle.theory_paths.specs.Lists.{numbers-length}
 
 -- a number or `-`, and the byte behind it
 unfoldable pub field : Bool → ℕ → ℕ → List ℕ
@@ -54,11 +53,6 @@ block-is labels nodes k =
 unfoldable pub lineAt : (ℕ → Class) → Table → ℕ → List ℕ
 lineAt κ t zero = headOf t
 lineAt κ t (suc x) = lineOf κ t x
-
-numbers-length : (count n : ℕ) → length (numbers count n) ≡ count
-unfolding numbers
-numbers-length zero n = refl
-numbers-length (suc count) n = ap suc (numbers-length count (suc n))
 
 numbers-at : (count n i : ℕ) → i < count → getD (numbers count n) i 0 ≡ n + i
 unfolding numbers

@@ -5,8 +5,6 @@ use tree_nodes::fields::parent;
 use tree_nodes::fields::size;
 use tree_nodes::fields::value;
 use writing::put;
-ghost use mathlib.Core.Path.{_≡_};
-ghost use mathlib.Core.Bool.{Bool};
 ghost use Prim.Native.Nat.{_+_, _*_, _<_, _≤_};
 ghost use lib.ListN.{length};
 ghost use Rattle.meaning.specs.Listing.{decimal};

@@ -1,11 +1,10 @@
 -- Child links: to each node its first child, and the next child of the same parent; 0 where there is none (no child is node 0).
 use Prim.Native.Nat.{ℕ, _+_, _-_, _<_, _≤_}
 use mathlib.Core.Path.{_≡_, refl, sym, subst}
-use mathlib.Core.Logic.{_≢_}
-use mathlib.Core.List.{List, []}
+use mathlib.Core.List.{List}
 use native.Mathlib.Omega.{arith}
 use native.Mathlib.Decide.{ℕ-discrete}
-use lib.ListN.{length, getD, set, length-set, replicate, getD-replicate}
+use lib.ListN.{length, getD, set}
 use lib.Seq.{getD-set-same, getD-set-other}
 use Rattle.meaning.specs.Trees.{Table, Child}
 

@@ -1,16 +1,15 @@
 -- The children of a node that pass a test, from a number on: what is left of `attributes` and `others` at a link.
 use Prim.Native.Nat.{ℕ, zero, suc, _+_, _-_, _<_, _≤_}
 use mathlib.Core.Path.{_≡_, refl, sym, _∙_, ap, subst}
-use mathlib.Core.Logic.{_⊎_, inl, inr}
-use mathlib.Core.Bool.{Bool, true, false, cond, _&&_, not}
+use mathlib.Core.Bool.{Bool, true, false, _&&_, not}
 use mathlib.Core.List.{List, [], _∷_}
 use native.Mathlib.Omega.{arith}
 use native.Mathlib.Decide.{decLt}
-use lib.Dec.{T, eqb}
+use lib.Dec.{eqb}
 use borrow.Author.Tests.{eq-eqb, ne-eqb}
 use Rattle.meaning.specs.Lists.{keep, numbers}
 use Rattle.meaning.specs.Paths.{Class, isAttribute}
-use Rattle.meaning.specs.Trees.{Table, Child, attributes, others}
+use Rattle.meaning.specs.Trees.{Table, attributes, others}
 use Rattle.tree_nodes.specs.Links.{LeastChild}
 
 -- the numbers of the table from i on that pass the test

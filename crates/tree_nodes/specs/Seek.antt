@@ -2,13 +2,13 @@
 use Prim.Native.Nat.{ℕ, zero, suc, _+_, _-_, _<_, _≤_}
 use mathlib.Core.Path.{_≡_, refl, sym, _∙_, ap, subst}
 use mathlib.Core.Bool.{Bool, true, false, Bool·beq, true≢false, false≢true}
-use mathlib.Core.List.{List, [], _∷_}
+use mathlib.Core.List.{List}
 use native.Mathlib.Omega.{arith}
 use lib.ListN.{getD}
 use Rattle.meaning.specs.Paths.{Class, isAttribute}
 use Rattle.meaning.specs.Trees.{Table, Child}
-use Rattle.tree_nodes.specs.Links.{LeastChild, Firsts, Nexts}
-use Rattle.tree_nodes.specs.Rest.{rest, IsKind, rest-no, rest-yes, linked-rest, listOf, list-kept}
+use Rattle.tree_nodes.specs.Links.{LeastChild, Nexts}
+use Rattle.tree_nodes.specs.Rest.{rest, IsKind, rest-no}
 
 -- From link i on to link n nothing of the kind was passed: both are 0 or children of one node
 pub record Passed (κ : ℕ → Class) (t : Table) (attribute : Bool) (i n : ℕ) : Type 0 where

@@ -6,24 +6,16 @@ use shapes::fields::KIND_AT;
 use shapes::fields::number;
 use shapes::fields::wide;
 use shapes::fields::word;
+use shapes::limits::LABEL_AT;
+use shapes::limits::NODE_BYTES;
+use shapes::limits::PARENT_AT;
+use shapes::limits::VALUE_AT;
+use shapes::limits::WIDE_BYTES;
 ghost use mathlib.Core.Path.{_≡_};
 ghost use Prim.Native.Nat.{_+_, _<_, _≤_};
 ghost use Rattle.meaning.specs.Records.{valueBytes};
 ghost use Rattle.meaning.specs.Refusals.{nodeKindIn};
 ghost use Rattle.tree_nodes.specs.FileTable.{fileStride, fileTable};
-
-// "tree 4,096 nodes"
-pub const NODES: usize = 4096;
-// 9 bytes a node record of kind 3: the head's 4, and the body's 5; 11 of kind 5.
-const NODE_BYTES: usize = 9;
-
-const WIDE_BYTES: usize = 11;
-
-const PARENT_AT: usize = 4;
-
-const LABEL_AT: usize = 6;
-
-const VALUE_AT: usize = 7;
 
 // The kind of the file's nodes: that of its record 0, whose 4 head bytes decide.
 pub fn node_kind(tree: &[u8]) -> usize

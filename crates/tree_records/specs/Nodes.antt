@@ -1,6 +1,6 @@
 -- A node record judged by the class table and the bytes of the nodes before it, return by return; and the same by the labels.
 use Prim.Native.Nat.{ℕ, zero, suc, _+_, _*_, _-_, _≤_, _<_}
-use mathlib.Core.Path.{_≡_, refl, sym, subst, ap, ap₂, _∙_}
+use mathlib.Core.Path.{_≡_, sym, subst, ap, ap₂, _∙_}
 use mathlib.Core.Bool.{Bool, true, false, cond, _&&_, _||_, not}
 use mathlib.Core.List.{List, [], _∷_}
 use native.Mathlib.Omega.{arith}
@@ -9,16 +9,14 @@ use native.Mathlib.Numerals.{add-one}
 use borrow.Author.Tests.{lt-ltb, le-ltb, eq-eqb, ne-eqb, not-true, not-false}
 use lib.Dec.{ltb, eqb}
 use lib.ListN.{length, getD, take, drop}
-use Rattle.meaning.specs.Lists.{isEmpty}
-use Rattle.meaning.specs.Paths.{Label, isElement, isAttribute, classOf, isLabel}
-use Rattle.meaning.specs.Trees.{Node, noNode}
+use Rattle.meaning.specs.Paths.{isElement, isAttribute}
+use Rattle.meaning.specs.Trees.{Node}
 use Rattle.meaning.specs.Records.{word, recordLength, recordKind, recordBody, valueBytes, readNode}
-use Rattle.meaning.specs.Refusals.{firstOf, tooMany, whole, goodRoot, goodBelow, treeTests}
-use Rattle.shapes.specs.Classes.{Tabled, classBy, isLabelBy, class-tabled, label-tabled}
-use Rattle.theory_records.specs.Bytes.{Bytes, bytes-at}
+use Rattle.meaning.specs.Refusals.{firstOf, tooMany, whole, goodRoot}
+use Rattle.shapes.specs.Classes.{classBy, isLabelBy}
 use Rattle.theory_records.specs.Tests.{first-holds, first-fails, not-holds, not-fails}
 use Rattle.theory_records.specs.HeadTests.{headTests, head-many, head-torn, head-other, head-more, body-part}
-use Rattle.theory_records.specs.Heads.{Whole, whole-says}
+use Rattle.theory_records.specs.Heads.{whole-says}
 use Rattle.theory_records.specs.Encodings.{IsNodeKind, value-small, ends-node}
 use Rattle.theory_records.specs.TreeFiles.{stride}
 

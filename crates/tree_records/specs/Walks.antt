@@ -6,16 +6,16 @@ use mathlib.Core.List.{List, [], _∷_, _++_}
 use native.Mathlib.Omega.{arith}
 use native.Mathlib.Nat.{mul-le-mul-left}
 use native.Mathlib.Numerals.{add-one}
-use borrow.Author.Tests.{not-false, eqb-true, ltb-true, lt-ltb, le-ltb, eq-eqb, ne-eqb}
+use borrow.Author.Tests.{ltb-true, lt-ltb, le-ltb, ne-eqb}
 use borrow.Rule.Slice.PartAt.{part-to-end}
 use lib.Dec.{ltb, eqb, eqb·suc-zero}
 use lib.ListN.{length, getD, take, drop, length-drop}
 use Rattle.meaning.specs.Lists.{any, isEmpty}
-use Rattle.meaning.specs.Paths.{Label, Class, isElement, isAttribute, classOf, isLabel, singles}
+use Rattle.meaning.specs.Paths.{Label, isElement, isAttribute, classOf, isLabel, singles}
 use Rattle.meaning.specs.Trees.{Node, noNode}
 use Rattle.meaning.specs.Records.{word, recordLength, recordKind, recordBody, readNode}
-use Rattle.meaning.specs.Refusals.{Refusal, sound, firstRefusal, oversize, Walked, walk, firstOf, tooMany, whole, goodRoot, goodBelow, nodeKindIn, treeLimit, repeated, treeTests, treeWalked, nodesIn, treeRefusal}
-use Rattle.shapes.specs.Classes.{Tabled, classBy, isLabelBy, class-tabled, label-tabled}
+use Rattle.meaning.specs.Refusals.{sound, firstRefusal, oversize, walk, firstOf, tooMany, whole, goodRoot, goodBelow, nodeKindIn, treeLimit, repeated, treeTests, treeWalked, treeRefusal}
+use Rattle.shapes.specs.Classes.{Tabled, classBy, class-tabled, label-tabled}
 use Rattle.theory_records.specs.HeadTests.{headTests, head-passed}
 use Rattle.theory_records.specs.Bytes.{Bytes, bytes-at, bytes-drop}
 use Rattle.theory_records.specs.Encodings.{IsNodeKind, bytes-body}

@@ -16,6 +16,14 @@ use shapes::fields::node_value;
 use shapes::fields::too_many;
 use shapes::fields::wide;
 use shapes::fields::word;
+use shapes::limits::FILLER_ATTRIBUTE;
+use shapes::limits::FILLER_ELEMENT;
+use shapes::limits::LABEL_AT;
+use shapes::limits::NO_NUMBER;
+use shapes::limits::PARENT_AT;
+use shapes::limits::ROOT_LABEL;
+use shapes::limits::TEXT;
+use shapes::limits::TREE_NODES;
 use tree_nodes::fields::bytes_of;
 ghost use mathlib.Core.Path.{_≡_};
 ghost use Prim.Native.Nat.{suc, _+_, _-_, _*_, _<_, _≤_};
@@ -27,22 +35,6 @@ ghost use Rattle.theory_records.specs.Encodings.{IsNodeKind};
 ghost use Rattle.theory_records.specs.TreeFiles.{stride};
 ghost use Rattle.tree_records.specs.Nodes.{goodBelowBy, goodNodeBy, scan, isTwin, bodyTestsBy, nodeTestsBy};
 
-// "Label 1 is text"; "201 is a filler element, 202 a filler attribute, 203 the root"
-const TEXT: usize = 1;
-
-const FILLER_ELEMENT: usize = 201;
-
-const FILLER_ATTRIBUTE: usize = 202;
-
-const ROOT_LABEL: usize = 203;
-// "the root is node 0 with parent 65535"
-const NO_NUMBER: usize = 65535;
-// "tree 4,096 nodes (36,864 bytes)"
-pub const TREE_NODES: usize = 4096;
-// Where parent and label stand in a node's record
-const PARENT_IN_RECORD: usize = 4;
-
-const LABEL_IN_RECORD: usize = 6;
 // A label that the class table does not declare
 const UNDECLARED: u8 = 0;
 
@@ -87,7 +79,7 @@ fn good_below(bytes: &[u8], nodes: usize, body: &[u8], classes: &[u8; 256], long
     if nodes <= parent {
         return false;
     }
-    let above = wide(bytes[long * parent + LABEL_IN_RECORD]);
+    let above = wide(bytes[long * parent + LABEL_AT]);
     if !is_element(classes, above) {
         return false;
     }
@@ -117,10 +109,10 @@ fn is_twin(bytes: &[u8], i: usize, parent: usize, label: usize, long: usize) -> 
     requires { ⌜ (9 ≤ long) × (long * i + long ≤ length (now bytes)) ⌝ }
     ensures { λ r. ⌜ r ≡ isTwin long (now (bytes .entry)) parent label i ⌝ }
 {
-    if word(bytes, long * i + PARENT_IN_RECORD) != parent {
+    if word(bytes, long * i + PARENT_AT) != parent {
         return false;
     }
-    wide(bytes[long * i + LABEL_IN_RECORD]) == label
+    wide(bytes[long * i + LABEL_AT]) == label
 }
 
 // Some node has, from number parent + 1 on: children stand behind their parent.

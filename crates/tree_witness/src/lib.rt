@@ -14,15 +14,14 @@ ghost use mathlib.Core.List.{[]};
 ghost use Prim.Native.Nat.{ℕ, _<_};
 ghost use lib.ListN.{length, getD};
 ghost use Rattle.meaning.specs.Lists.{Each};
-ghost use Rattle.meaning.specs.Keys.{EqualPair, FirstWitness};
+ghost use Rattle.meaning.specs.Keys.{EqualPair};
 ghost use Rattle.meaning.specs.Records.{keyIn};
 ghost use Rattle.theory_trees.specs.Witness.{FirstPair, FirstTargets};
-ghost use Rattle.answers.specs.Cases.{numbersOf};
 ghost use Rattle.tree_nodes.specs.FileTable.{fileTable, classBy};
 ghost use Rattle.tree_rows.specs.Rows.{row};
 ghost use Rattle.key_pairs.specs.Marks.{Hanging};
 ghost use Rattle.tree_witness.specs.Firsts.{Firsts};
-ghost use Rattle.tree_witness.specs.Pairs.{PairAt};
+ghost use Rattle.tree_witness.specs.Pairs.{PairAt, FirstShown};
 
 // "one value-equal pair": x lies below the smaller target, y below the larger.
 struct Pair {
@@ -119,7 +118,7 @@ pub fn witness(
     second: usize,
 ) -> Witness
     requires { ⌜ Hanging (now classes) (now tree) (now rows) (now hung) (now body) × FirstTargets (classBy (now classes)) (fileTable (now tree)) (keyIn (now body)) context first second ⌝ }
-    ensures { λ r. ⌜ FirstWitness (classBy (now (classes .entry))) (fileTable (now (tree .entry))) (keyIn (now (body .entry))) (numbersOf r) ⌝ }
+    ensures { λ r. ⌜ FirstShown (classBy (now (classes .entry))) (fileTable (now (tree .entry))) (keyIn (now (body .entry))) r ⌝ }
 {
     let one = pair_at(tree, classes, rows, hung, body, 0, first, second);
     let two = pair_at(tree, classes, rows, hung, body, 1, first, second);

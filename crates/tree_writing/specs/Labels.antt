@@ -1,8 +1,8 @@
 -- From the class table to the profile's labels: the table of accepted labels says the class of every label.
 use Prim.Native.Nat.{ℕ, _≤_, _<_}
-use mathlib.Core.Path.{_≡_, refl, sym, subst, fun-ext}
+use mathlib.Core.Path.{_≡_, sym, subst, fun-ext}
 use mathlib.Core.Bool.{true}
-use mathlib.Core.List.{List, [], _∷_, List·Memᴰ, List·Memᴰ·head, List·Memᴰ·tail}
+use mathlib.Core.List.{List, []}
 use native.Mathlib.Omega.{arith}
 use native.Mathlib.Decide.{decLt}
 use lib.ListN.{length, getD, List·getD-eq-default}
@@ -13,6 +13,7 @@ use Rattle.meaning.specs.Keys.{Key}
 use Rattle.meaning.specs.Records.{readKey, keyIn, isSome}
 use Rattle.meaning.specs.Pattern.{qOf, tOf}
 use Rattle.theory_paths.specs.Good.{GoodLabels, undeclared-class, undeclared-high, GoodKey, context-length, target-length, key-path-length, paths-within}
+use Rattle.theory_paths.specs.Lists.{getD-mem}
 use Rattle.shapes.specs.Classes.{classBy, Tabled, class-tabled}
 use Rattle.drawing.specs.Sketch.{Asked}
 use Rattle.tree_writing.specs.Written.{TreeWritten}
@@ -40,11 +41,6 @@ module _ {labels : List Label} {classes : List ℕ} (tabled : Tabled labels clas
       → TreeWritten (classOf labels) asked u before after used
   tree-of-labels {asked} {u} {before} {after} {used} w = subst (λ (κ : ℕ → Class). TreeWritten κ asked u before after used) class-everywhere w
 
-member-at : (l : List (List ℕ)) (i : ℕ) → i < length l → List·Memᴰ (getD l i []) l
-member-at [] i h = absurd (omega arith)
-member-at (p ∷ l) ℕ.zero h = List·Memᴰ·head refl
-member-at (p ∷ l) (ℕ.suc i) h = List·Memᴰ·tail (member-at l i (omega arith))
-
 -- an accepted question is within the sizes
 pub asked-good : (labels : List Label) (body : List ℕ) (u : ℕ) → isSome (readKey body) ≡ true → GoodKey labels inProfile (keyIn body)
     → qOf (keyIn body) ≤ u → u < tOf (keyIn body) → Asked body u
@@ -56,7 +52,7 @@ asked-good labels body u e g q t =
             context = context-length labels inProfile (keyIn body) g;
             target = target-length labels inProfile (keyIn body) g;
             few = paths-within labels inProfile (keyIn body) g;
-            short = λ i h. key-path-length labels inProfile (keyIn body) g (getD (keyIn body .paths) i []) (member-at (keyIn body .paths) i h);
+            short = λ i h. key-path-length labels inProfile (keyIn body) g (getD (keyIn body .paths) i []) (getD-mem (keyIn body .paths) i [] h);
           };
       fromQ = q;
       aboveT = t;

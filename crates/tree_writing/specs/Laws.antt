@@ -1,5 +1,5 @@
 -- One law for each step of the writers.
-use Prim.Native.Nat.{ℕ, zero, suc, _+_, _-_, _*_, _%_, _/_, _≤_, _<_}
+use Prim.Native.Nat.{ℕ, suc, _+_, _-_, _*_, _%_, _/_, _≤_, _<_}
 use mathlib.Core.Path.{_≡_, refl, sym, ap, ap₂, _∙_}
 use mathlib.Core.Bool.{Bool, true, false}
 use mathlib.Core.List.{List, [], _∷_, _++_, map, flatten, append-nil}
@@ -13,13 +13,13 @@ use Rattle.meaning.specs.Lists.{numbers}
 use Rattle.meaning.specs.Paths.{Class, isElement}
 use Rattle.meaning.specs.Trees.{Node}
 use Rattle.meaning.specs.Records.{nodeBytes, recordBytes, wordBytes, valueBytes, numberBytes}
-use Rattle.theory_counter.specs.Flattened.{numbers-length}
 use Rattle.drawing.specs.declared.Drawing.{Drawing}
 use Rattle.drawing.specs.Sketch.{entryAt, Sized}
-use Rattle.drawing.specs.Entries.{numbers-more, map-append}
-use Rattle.theory_sketch.specs.Standing.{flatten-append}
+use Rattle.drawing.specs.Entries.{numbers-more}
+use Rattle.tree_writing.specs.Standing.{flatten-append}
 use Rattle.tree_writing.specs.Front.{Front, front-none, front-more, front-length, front-same}
 use Rattle.tree_writing.specs.Written.{parentOf, valueOf, nodeFrom, copyBytes, Copying, Copied}
+use Rattle.theory_paths.specs.Lists.{map-append, numbers-length}
 
 -- the parent
 pub parent-root : (above cut shift x : ℕ) → x ≡ 0 → 65535 ≡ parentOf above cut shift x
@@ -97,18 +97,6 @@ nodes-length (n ∷ l) =
     let b = node-length n in
     let c = nodes-length l in
     omega arith
-
-pub numbers-split : (m n start : ℕ) → numbers (m + n) start ≡ numbers m start ++ numbers n (start + m)
-unfolding numbers
-numbers-split zero n start =
-    let e : 0 + n ≡ n = omega arith in
-    let f : start ≡ start + 0 = omega arith in
-    ap₂ numbers e f
-numbers-split (suc m) n start =
-    let e : suc m + n ≡ suc (m + n) = omega arith in
-    let f : suc start + m ≡ start + suc m = omega arith in
-    ap (λ (k : ℕ). numbers k start) e
-    ∙ ap (λ (l : List ℕ). start ∷ l) (numbers-split m n (suc start) ∙ ap (λ (k : ℕ). numbers m (suc start) ++ numbers n k) f)
 
 module _ (κ : ℕ → Class) (d : Drawing) (cut shift from : ℕ) where
   pub copy-length : (count : ℕ) → length (copyBytes κ d cut shift from count) ≡ 11 * count

@@ -18,12 +18,13 @@ use Rattle.theory_counter.specs.PatternLaws.{pattern-length}
 use Rattle.theory_counter.specs.WrittenLaws.{all-nodes}
 use Rattle.drawing.specs.declared.Drawing.{Drawing}
 use Rattle.drawing.specs.Sketch.{Sketch, entryAt, sketch, Shown, Asked, drawTrunk, drawBelow}
-use Rattle.drawing.specs.Entries.{map-append, map-agree, sketch-length}
-use Rattle.theory_sketch.specs.Standing.{flatten-append}
-use Rattle.theory_sketch.specs.Whole.{IsDrawn, whole-drawn, trunk-long, root-unmarked}
+use Rattle.drawing.specs.Entries.{map-agree, sketch-length}
+use Rattle.tree_writing.specs.Standing.{flatten-append}
+use Rattle.tree_writing.specs.Whole.{IsDrawn, whole-drawn, trunk-long, root-unmarked}
 use Rattle.tree_writing.specs.Front.{Front, front-more, front-length, front-same}
 use Rattle.tree_writing.specs.Written.{parentOf, valueOf, nodeFrom, copyBytes, Copying, TreeWritten}
-use Rattle.tree_writing.specs.Laws.{nodes-more, numbers-split, copy-length, copying-rest}
+use Rattle.tree_writing.specs.Laws.{nodes-more, copy-length, copying-rest}
+use Rattle.theory_paths.specs.Lists.{map-append, numbers-append}
 
 module _ (κ : ℕ → Class) (asked : Key) (d : Drawing) (drew : IsDrawn κ asked (sketch d)) (root : marked asked 0 ≡ false) where
   entry-is : (x : ℕ) → x < d .size → entryAt d x ≡ getD (record { parent = 0; label = rootLabel; mark = false } ∷ drew .rest) x (noDressed κ asked)
@@ -61,7 +62,7 @@ module _ (κ : ℕ → Class) (asked : Key) (d : Drawing) (drew : IsDrawn κ ask
       (ap₂ (λ (x y : List ℕ). x ++ y) (copy-is cut 0 0 cut (omega arith)) (copy-is cut 0 cut (d .size - cut) (omega arith))
       ∙ sym (nodes-more (writtenNode κ asked cut 0) (numbers cut 0) (numbers (d .size - cut) cut))
       ∙ ap (λ (l : List ℕ). flatten (map (nodeBytes 5) (map (writtenNode κ asked cut 0) l)))
-      (ap (λ (k : ℕ). numbers cut 0 ++ numbers (d .size - cut) k) (sym z) ∙ sym (numbers-split cut (d .size - cut) 0) ∙ ap (λ (k : ℕ). numbers k 0) e))
+      (ap (λ (k : ℕ). numbers cut 0 ++ numbers (d .size - cut) k) (sym z) ∙ sym (numbers-append cut (d .size - cut) 0) ∙ ap (λ (k : ℕ). numbers k 0) e))
       (copy-is cut (d .size - cut) cut (d .size - cut) (omega arith))
       ∙ sym
       (ap flatten (map-append (nodeBytes 5) (map (writtenNode κ asked cut 0) (numbers (d .size) 0)) (map (writtenNode κ asked cut (d .size - cut)) (numbers (d .size - cut) cut)))

@@ -3,7 +3,10 @@ use drawing::Drawing;
 use drawing::draw_below;
 use drawing::draw_trunk;
 use shapes::classes::is_element;
+use shapes::fields::BYTE;
 use shapes::fields::wide;
+use shapes::limits::NO_NUMBER;
+use shapes::limits::WIDE_BYTES;
 ghost use mathlib.Core.Path.{_≡_};
 ghost use Prim.Native.Nat.{_+_, _-_, _*_, _/_, _%_, _<_, _≤_};
 ghost use lib.ListN.{length};
@@ -14,17 +17,11 @@ ghost use Rattle.tree_writing.specs.Front.{Front};
 ghost use Rattle.tree_writing.specs.Written.{parentOf, valueOf, nodeFrom, copyBytes, Copying, TreeWritten};
 
 // "length of the whole record (two bytes, little-endian), kind (two bytes), body"; 11 bytes a node record, kind 5
-const NODE_BYTES: usize = 11;
-
 const NODE_LENGTH: u8 = 11;
 
 const WIDE_KIND: u8 = 5;
 
-const BYTE: usize = 256;
-
 const WORD: usize = 65536;
-// "the root is node 0 with parent 65535"
-const NO_NUMBER: usize = 65535;
 
 // "two bytes, little-endian"
 fn low(n: usize) -> u8
@@ -127,7 +124,7 @@ fn write_copy(
 {
     let mut x = from;
     while x < to {
-        let at = NODE_BYTES * (x - from);
+        let at = WIDE_BYTES * (x - from);
         write_drawn(&mut out[at..], drawing, classes, cut, shift, x);
         x += 1;
     }
@@ -144,9 +141,9 @@ pub fn write_tree(out: &mut [u8], asked: &[u8], classes: &[u8; 256], u: usize) -
     let all = drawing.size;
     let gap = all - cut;
     write_copy(out, drawing, classes, 0, cut, cut, 0);
-    let first = NODE_BYTES * cut;
+    let first = WIDE_BYTES * cut;
     write_copy(&mut out[first..], drawing, classes, cut, all, cut, 0);
-    let second = NODE_BYTES * all;
+    let second = WIDE_BYTES * all;
     write_copy(&mut out[second..], drawing, classes, cut, all, cut, gap);
-    second + NODE_BYTES * gap
+    second + WIDE_BYTES * gap
 }

@@ -1,5 +1,5 @@
--- Demand 3, said of the answer that deciding gives to inputs that are not refused: implied exactly when every finite tree, of any size, labels
--- and values, that keeps the profile keeps the key; else not implied. Each with its evidence, never both.
+-- Demand 3 (docs/PROMISES.md has the demands), said of the answer that deciding gives to inputs that are not refused: implied exactly when
+-- every finite tree, of any size, labels and values, that keeps the profile keeps the key; else not implied. Each with its evidence, never both.
 use Prim.Native.Nat.{ℕ, zero, suc, _*_, _≤_}
 use mathlib.Core.Path.{_≡_, refl, sym, _∙_, ap, subst}
 use mathlib.Core.Logic.{_⊎_, ⊎-elim}

@@ -1,12 +1,12 @@
 -- Bytes written into a lent buffer from a place on; what stands before and behind them stays.
-use Prim.Native.Nat.{ℕ, zero, suc, _+_, _-_, _<_, _≤_}
+use Prim.Native.Nat.{ℕ, _+_, _<_, _≤_}
 use mathlib.Core.Path.{_≡_, refl, sym, _∙_, ap, ap₂, subst}
 use mathlib.Core.List.{List, [], _∷_, _++_, append-assoc}
 use native.Mathlib.Omega.{arith}
 use native.Mathlib.Nat.{zero-add}
 use native.Mathlib.Numerals.{add-one}
-use lib.ListN.{length, getD, take, drop, set, length-append, length-take, length-drop, take-append-drop}
-use lib.Seq.{set-split, take-append-add, drop-append-add, take-at, drop-at, length-take-le, drop-drop, take-suc, take-all}
+use lib.ListN.{length, getD, take, drop, set, length-append, length-drop, take-append-drop}
+use lib.Seq.{set-split, drop-append-add, take-at, length-take-le, drop-drop, take-suc, take-all}
 
 unfoldable pub written : List ℕ → ℕ → List ℕ → List ℕ
 written out at v = take at out ++ (v ++ drop (at + length v) out)

@@ -12,32 +12,32 @@ returns : tie.Need-returns
 returns c = search append-short
 
 -- src/lib.rt:265:17
-slice-aggregate-same : tie.Need-slice-aggregate-same
-slice-aggregate-same c = simp length-take (omega arith)
+slice-aggregate-same-bytes : tie.Need-slice-aggregate-same-bytes
+slice-aggregate-same-bytes c = simp length-take (omega arith)
 
 -- src/lib.rt:265:9
-same-requires : tie.Need-same-requires
-same-requires c κs = search needs
+same-bytes-requires : tie.Need-same-bytes-requires
+same-bytes-requires c κs = search needs
 
 -- src/lib.rt:266:9
 returns-2 : tie.Need-returns-2
 returns-2 c = search (append-other, not-true)
 
 -- src/lib.rt:268:13
-sub-same : tie.Need-sub-same
-sub-same c = search needs
+sub-same-bytes : tie.Need-sub-same-bytes
+sub-same-bytes c = search needs
 
 -- src/lib.rt:268:13
-part-same-start : tie.Need-part-same-start
-part-same-start c = search needs
+part-same-bytes-start : tie.Need-part-same-bytes-start
+part-same-bytes-start c = search needs
 
 -- src/lib.rt:268:13
-part-same-end : tie.Need-part-same-end
-part-same-end c = search needs
+part-same-bytes-end : tie.Need-part-same-bytes-end
+part-same-bytes-end c = search needs
 
 -- src/lib.rt:268:5
-same-requires-2 : tie.Need-same-requires-2
-same-requires-2 c κs = search needs
+same-bytes-requires-2 : tie.Need-same-bytes-requires-2
+same-bytes-requires-2 c κs = search needs
 
 -- src/lib.rt:258:1
 returns-3 : tie.Need-returns-3
@@ -48,11 +48,11 @@ append-is-spec =
     tie.close
     (tie.spec
     returns
-    slice-aggregate-same
-    same-requires
+    slice-aggregate-same-bytes
+    same-bytes-requires
     returns-2
-    sub-same
-    part-same-start
-    part-same-end
-    same-requires-2
+    sub-same-bytes
+    part-same-bytes-start
+    part-same-bytes-end
+    same-bytes-requires-2
     returns-3)

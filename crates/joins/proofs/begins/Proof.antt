@@ -11,16 +11,16 @@ returns : tie.Need-returns
 returns c = search too-long
 
 -- src/lib.rt:151:13
-slice-aggregate-same : tie.Need-slice-aggregate-same
-slice-aggregate-same c = simp length-take (omega arith)
+slice-aggregate-same-bytes : tie.Need-slice-aggregate-same-bytes
+slice-aggregate-same-bytes c = simp length-take (omega arith)
 
 -- src/lib.rt:151:5
-same-requires : tie.Need-same-requires
-same-requires c κs = search needs
+same-bytes-requires : tie.Need-same-bytes-requires
+same-bytes-requires c κs = search needs
 
 -- src/lib.rt:144:1
 returns-2 : tie.Need-returns-2
 returns-2 c = search begun
 
 pub begins-spec : {M : Type 1} → statement M
-begins-spec = tie.close (tie.spec returns slice-aggregate-same same-requires returns-2)
+begins-spec = tie.close (tie.spec returns slice-aggregate-same-bytes same-bytes-requires returns-2)

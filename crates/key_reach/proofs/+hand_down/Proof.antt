@@ -2,7 +2,6 @@ use Rattle.key_reach.specs.Least.{least-empty, least-part, least-long}
 use Rattle.tree_nodes.specs.Ready.{parents-smaller}
 use lib.ListN.{length, length-take, length-drop}
 use denote.Ref.{now}
-use Prim.Native.Nat.{_+_, _-_}
 use borrow.Author.Needs.{needs}
 use native.Mathlib.Omega.{arith}
 use Prim.Native.Nat.{ℕ, _<_}

@@ -1,9 +1,6 @@
-use Prim.Native.Nat.{ℕ, _+_, _-_, _≤_, _<_}
-use mathlib.Core.Path.{_≡_, refl, sym, _∙_, ap, subst}
+use mathlib.Core.Path.{refl, _∙_}
 use native.Mathlib.Omega.{arith}
 use borrow.Author.Needs.{needs}
-use lib.ListN.{length, getD}
-use Rattle.tree_nodes.specs.FileTable.{fileTable}
 use Rattle.key_reach.specs.Least.{label-root, label-other, label-same}
 use borrow.Author.Needs.{needs}
 use Rattle.key_reach.proofs.from_parent.Statement.{statement}

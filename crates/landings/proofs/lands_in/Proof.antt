@@ -17,20 +17,20 @@ add-end : tie.Need-add-end
 add-end c = search needs
 
 -- src/lib.rt:54:14
-sub-same : tie.Need-sub-same
-sub-same c = search needs
+sub-same-bytes : tie.Need-sub-same-bytes
+sub-same-bytes c = search needs
 
 -- src/lib.rt:54:14
-part-same-start : tie.Need-part-same-start
-part-same-start c = search needs
+part-same-bytes-start : tie.Need-part-same-bytes-start
+part-same-bytes-start c = search needs
 
 -- src/lib.rt:54:14
-part-same-end : tie.Need-part-same-end
-part-same-end c = search needs
+part-same-bytes-end : tie.Need-part-same-bytes-end
+part-same-bytes-end c = search needs
 
 -- src/lib.rt:54:9
-same-requires : tie.Need-same-requires
-same-requires c κs = search needs
+same-bytes-requires : tie.Need-same-bytes-requires
+same-bytes-requires c κs = search needs
 
 -- src/lib.rt:55:9
 returns-2 : tie.Need-returns-2
@@ -51,10 +51,10 @@ lands-in-spec =
     sub-if1
     returns
     add-end
-    sub-same
-    part-same-start
-    part-same-end
-    same-requires
+    sub-same-bytes
+    part-same-bytes-start
+    part-same-bytes-end
+    same-bytes-requires
     returns-2
     marked-requires
     returns-3)

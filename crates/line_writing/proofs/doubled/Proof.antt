@@ -1,5 +1,4 @@
 use Rattle.line_writing.specs.Normals.{doubled-label, doubled-last, doubled-next}
-use native.Mathlib.Omega.{arith}
 use borrow.Author.Needs.{needs}
 use Rattle.line_writing.proofs.doubled.Statement.{statement}
 use Rattle.line_writing.proofs.doubled.Tie as tie

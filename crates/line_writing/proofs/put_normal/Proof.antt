@@ -2,7 +2,6 @@ use mathlib.Core.Logic.{⊎-elim}
 use Rattle.line_writing.specs.Normals.{Normed, normed-none, normed-skip, normed-more, normed-all, normed-is}
 use Prim.Native.Nat.{_-_}
 use lib.ListN.{length}
-use borrow.Author.Needs.{needs}
 use native.Mathlib.Omega.{arith}
 use Rattle.line_writing.proofs.put_normal.Statement.{statement}
 use Rattle.line_writing.proofs.put_normal.Tie as tie

@@ -1,5 +1,4 @@
 use Rattle.writing.specs.Wrote.{wrote-byte}
-use native.Mathlib.Omega.{arith}
 use borrow.Author.Needs.{needs}
 use Rattle.line_writing.proofs.put_number.Statement.{statement}
 use Rattle.line_writing.proofs.put_number.Tie as tie

@@ -1,4 +1,3 @@
-use native.Mathlib.Omega.{arith}
 use borrow.Author.Needs.{needs}
 use Rattle.listings.specs.Listed.{tree-ready, tree-lists, tree-stops}
 use Rattle.listings.proofs.list_tree.Statement.{statement}

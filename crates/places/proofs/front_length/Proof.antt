@@ -1,5 +1,4 @@
 use Rattle.places.specs.Steps.{length-none, length-one, length-two}
-use native.Mathlib.Omega.{arith}
 use borrow.Author.Needs.{needs}
 use Rattle.places.proofs.front_length.Statement.{statement}
 use Rattle.places.proofs.front_length.Tie as tie

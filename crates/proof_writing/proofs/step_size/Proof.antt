@@ -2,12 +2,13 @@ use Rattle.proof_writing.specs.Sizes.{size-chain-empty, size-chain, size
 use Rattle.proof_writing.specs.Whole.{chain-is-t}
 use borrow.Author.Needs.{needs}
 use Rattle.proof_writing.proofs.step_size.Statement.{statement}
+use Rattle.theory_derive.specs.Spots.{holdsEmpty}
 use Rattle.proof_writing.proofs.step_size.Tie as tie
 use Rattle.proof_writing.proofs.step_size.Reads as reads
 use Rattle.proof_writing.proofs.step_size.Lts as lts
 use Rattle.shapes.proofs.keys.context.Reads as context-reads
 use Rattle.shapes.proofs.keys.target.Reads as target-reads
-use Rattle.step_writing.proofs.single.holds_empty.Reads as holds-empty-reads
+use Rattle.shapes.proofs.keys.holds_empty.Reads as holds-empty-reads
 
 -- src/lib.rt:100:17
 context-requires : tie.Need-context-requires
@@ -27,18 +28,22 @@ holds-empty-requires c κs = search needs
 
 -- src/lib.rt:104:13
 returns : tie.Need-returns
+unfolding holdsEmpty
 returns c = size-chain-empty _ _ (chain-is-t _ (c .before .before .before .before .context .ensures) (c .before .before .before .target .ensures)) (c .before .before .holds-empty .ensures) (c .before .if1 .taken) (c .if2 .taken)
 
 -- src/lib.rt:106:9
 returns-2 : tie.Need-returns-2
+unfolding holdsEmpty
 returns-2 c = size-chain _ _ (chain-is-t _ (c .before .before .before .before .context .ensures) (c .before .before .before .target .ensures)) (c .before .before .holds-empty .ensures) (c .before .if1 .taken) (c .if2 .left)
 
 -- src/lib.rt:109:9
 returns-3 : tie.Need-returns-3
+unfolding holdsEmpty
 returns-3 c = size-empty _ _ (chain-is-t _ (c .before .before .before .before .context .ensures) (c .before .before .before .target .ensures)) (c .before .before .holds-empty .ensures) (c .before .if1 .left) (c .if3 .taken)
 
 -- src/lib.rt:96:1
 returns-4 : tie.Need-returns-4
+unfolding holdsEmpty
 returns-4 c = size-end _ _ (chain-is-t _ (c .before .before .before .before .context .ensures) (c .before .before .before .target .ensures)) (c .before .before .holds-empty .ensures) (c .before .if1 .left) (c .if3 .left)
 
 pub step-size-spec : {M : Type 1} → statement M

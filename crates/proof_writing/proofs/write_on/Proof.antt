@@ -3,6 +3,7 @@ use Rattle.proof_writing.specs.Ready.{opening-fits, step-fits, at-node}
 use native.Mathlib.Omega.{arith}
 use borrow.Author.Needs.{needs}
 use Rattle.proof_writing.proofs.write_on.Statement.{statement}
+use Rattle.theory_derive.specs.Spots.{holdsEmpty}
 use Rattle.proof_writing.proofs.write_on.Tie as tie
 use Rattle.proof_writing.proofs.write_on.Reads as reads
 use Rattle.proof_writing.proofs.write_on.Lts as lts
@@ -12,7 +13,7 @@ use Rattle.step_writing.proofs.branch.write_empty.Reads as write-empty-reads
 use Rattle.step_writing.proofs.branch.write_end.Reads as write-end-reads
 use Rattle.step_writing.proofs.chain.write_chain.Reads as write-chain-reads
 use Rattle.step_writing.proofs.chain.write_opening.Reads as write-opening-reads
-use Rattle.step_writing.proofs.single.holds_empty.Reads as holds-empty-reads
+use Rattle.shapes.proofs.keys.holds_empty.Reads as holds-empty-reads
 
 -- src/lib.rt:64:17
 context-requires : tie.Need-context-requires
@@ -56,6 +57,7 @@ same-length-2 c = search needs
 
 -- src/lib.rt:70:9
 returns-2 : tie.Need-returns-2
+unfolding holdsEmpty
 returns-2 c = on-empty _ _ _ _ _ _ _ (chain-is-t _ (c .before .before .before .before .before .before .before .before .before .before .before .before .context .ensures) (c .before .before .before .before .before .before .before .before .before .before .before .target .ensures)) (c .before .before .before .before .before .before .before .before .before .write-opening .ensures) (c .before .before .before .before .before .before .if1 .left) (c .before .before .before .before .before .holds-empty .ensures) (c .before .before .before .before .if2 .taken) (c .before .before .write-empty .ensures)
 
 -- src/lib.rt:72:5
@@ -68,6 +70,7 @@ same-length-3 c = search needs
 
 -- src/lib.rt:60:1
 returns-3 : tie.Need-returns-3
+unfolding holdsEmpty
 returns-3 c = on-end _ _ _ _ _ _ _ (chain-is-t _ (c .before .before .before .before .before .before .before .before .before .before .before .before .context .ensures) (c .before .before .before .before .before .before .before .before .before .before .before .target .ensures)) (c .before .before .before .before .before .before .before .before .before .write-opening .ensures) (c .before .before .before .before .before .before .if1 .left) (c .before .before .before .before .before .holds-empty .ensures) (c .before .before .before .before .if2 .left) (c .before .before .write-end .ensures)
 
 pub write-on-spec : {M : Type 1} → statement M

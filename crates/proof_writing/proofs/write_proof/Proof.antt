@@ -1,6 +1,6 @@
 use Rattle.proof_writing.specs.Sizes.{size-within}
 use Rattle.steps.specs.Ranges.{stepOf}
-use mathlib.Core.Path.{refl, sym, _∙_}
+use mathlib.Core.Path.{refl, _∙_}
 use native.Mathlib.Omega.{arith}
 use Rattle.proof_writing.specs.Whole.{Writing, writing-start, writing-room, writing-next, writing-end, last-fits, last-is}
 use Rattle.meaning.specs.Records.{keyIn}

@@ -2,7 +2,7 @@ use Rattle.proof_writing.specs.Whole.{body-is, record-end, record-long, 
 use Rattle.proof_writing.specs.Ready.{SpotReady}
 use Rattle.steps.specs.Ranges.{stepOf}
 use denote.Ref.{now}
-use Prim.Native.Nat.{ℕ, _+_}
+use Prim.Native.Nat.{ℕ}
 use mathlib.Core.List.{List}
 use mathlib.Core.Path.{sym, subst}
 use native.Mathlib.Omega.{arith}

@@ -6,7 +6,7 @@ use Rattle.row_classes.proofs.sort.Statement.{statement}
 use Rattle.row_classes.proofs.sort.Tie as tie
 use Rattle.row_classes.proofs.sort.Reads as reads
 use Rattle.row_classes.proofs.sort.Lts as lts
-use Rattle.row_classes.proofs.wide.Reads as wide-reads
+use Rattle.tree_weights.proofs.wide.Reads as wide-reads
 use Rattle.tree_nodes.proofs.tables.blank.Reads as blank-reads
 
 abbrev Inv-loop : tie.InvT-loop
@@ -61,7 +61,7 @@ loop-less c = omega arith
 
 -- src/lib.rt:33:5
 loop-again : tie.Need-loop-again Inv-loop μ-loop
-loop-again c = (omega arith, sorted-more _ _ _ _ _ (let p = c .before .before .before .before .before .pre in omega arith) (c .before .before .before .loop .inv .1) (ap (λ (k : ℕ). k / 4096 % c .before .before .before .before .before .args .count) (c .wide .ensures)))
+loop-again c = (omega arith, sorted-more _ _ _ _ _ (let p = c .before .before .before .before .before .pre in omega arith) (c .before .before .before .loop .inv .1) (ap (λ (k : ℕ). k / 4096 % c .before .before .before .before .before .args .count) (c .wide .ensures .0)))
 
 -- src/lib.rt:27:1
 returns : tie.Need-returns Inv-loop μ-loop

@@ -1,7 +1,6 @@
 use denote.Ref.{now}
 use borrow.Rule.Slice.PartAt.{part-to-end}
 use Rattle.set_writing.specs.Unions.{beyond-none}
-use native.Mathlib.Omega.{arith}
 use borrow.Author.Needs.{needs}
 use Rattle.set_writing.proofs.beyond.Statement.{statement}
 use Rattle.set_writing.proofs.beyond.Tie as tie

@@ -1,8 +1,5 @@
-use borrow.Author.Needs.{needs}
 use native.Mathlib.Omega.{arith}
-use Rattle.set_writing.specs.Places.{Seeking, seek-start, some-left, place-before, place-held, place-end, seek-next}
-use lib.ListN.{length}
-use Prim.Native.Nat.{_≤_}
+use Rattle.set_writing.specs.Places.{Seeking, seek-start, place-before, place-held, place-end, seek-next}
 use Rattle.set_writing.proofs.find_place.Statement.{statement}
 use Rattle.set_writing.proofs.find_place.Tie as tie
 use Rattle.set_writing.proofs.find_place.Reads as reads
@@ -11,6 +8,7 @@ use Rattle.key_shapes.proofs.order.before.Reads as before-reads
 use Rattle.shapes.proofs.bodies.after_path.Reads as after-path-reads
 use Rattle.shapes.proofs.bodies.lead_path.Reads as lead-path-reads
 use Rattle.shapes.proofs.names.same_bytes.Reads as same-bytes-reads
+use Rattle.shapes.specs.KeyPaths.{step-holds}
 
 abbrev Inv-loop : tie.InvT-loop
 Inv-loop count paths path rest₀ left₀ rest left = Seeking count paths path left rest
@@ -24,7 +22,7 @@ loop-holds c = seek-start _ _ _ (c .before .before .pre)
 
 -- src/lib.rt:41:13
 lead-path-requires : tie.Need-lead-path-requires Inv-loop μ-loop
-lead-path-requires c κs = some-left _ _ (c .loop-test .taken) (c .before .loop .inv .ends)
+lead-path-requires c κs = step-holds _ _ (c .loop-test .taken) (c .before .loop .inv .ends)
 
 -- src/lib.rt:42:12
 before-requires : tie.Need-before-requires Inv-loop μ-loop
@@ -52,7 +50,7 @@ returns-2 c = place-held (c .before .before .before .before .before .before .loo
 
 -- src/lib.rt:48:13
 after-path-requires : tie.Need-after-path-requires Inv-loop μ-loop
-after-path-requires c κs = some-left _ _ (c .before .before .before .before .before .loop-test .taken) (c .before .before .before .before .before .before .loop .inv .ends)
+after-path-requires c κs = step-holds _ _ (c .before .before .before .before .before .loop-test .taken) (c .before .before .before .before .before .before .loop .inv .ends)
 
 -- src/lib.rt:50:9
 sub-left : tie.Need-sub-left Inv-loop μ-loop

@@ -2,7 +2,6 @@ use Rattle.set_writing.specs.Inserts.{inserted-held, inserted-new}
 use Rattle.writing.specs.Wrote.{part-length}
 use denote.Ref.{now}
 use lib.Seq.{length-take-le}
-use mathlib.Core.Bool.{false}
 use mathlib.Core.Path.{sym}
 use native.Mathlib.Omega.{arith}
 use borrow.Author.Needs.{needs}

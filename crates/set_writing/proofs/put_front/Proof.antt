@@ -1,7 +1,5 @@
-use borrow.Author.Needs.{needs}
 use native.Mathlib.Omega.{arith}
 use Rattle.set_writing.specs.Fronts.{Fronting, fronting-start, fronting-fits, fronting-next, fronting-end}
-use Rattle.set_writing.specs.Places.{some-left}
 use Rattle.set_writing.proofs.put_front.Statement.{statement}
 use Rattle.set_writing.proofs.put_front.Tie as tie
 use Rattle.set_writing.proofs.put_front.Reads as reads
@@ -9,6 +7,7 @@ use Rattle.set_writing.proofs.put_front.Lts as lts
 use Rattle.set_writing.proofs.put_joined.Reads as put-joined-reads
 use Rattle.shapes.proofs.bodies.after_path.Reads as after-path-reads
 use Rattle.shapes.proofs.bodies.lead_path.Reads as lead-path-reads
+use Rattle.shapes.specs.KeyPaths.{step-holds}
 
 abbrev Inv-loop : tie.InvT-loop
 Inv-loop buffer₀ front count paths at₀ rest₀ left₀ buffer at rest left = Fronting buffer₀ front count paths buffer at left rest
@@ -22,7 +21,7 @@ loop-holds c = fronting-start (c .before .before .before .pre)
 
 -- src/lib.rt:131:13
 lead-path-requires : tie.Need-lead-path-requires Inv-loop μ-loop
-lead-path-requires c κs = some-left _ _ (c .loop-test .taken) (c .before .loop .inv .ends)
+lead-path-requires c κs = step-holds _ _ (c .loop-test .taken) (c .before .loop .inv .ends)
 
 -- src/lib.rt:132:9
 put-joined-requires : tie.Need-put-joined-requires Inv-loop μ-loop
@@ -30,7 +29,7 @@ put-joined-requires c κs = fronting-fits (c .before .before .before .before .be
 
 -- src/lib.rt:133:13
 after-path-requires : tie.Need-after-path-requires Inv-loop μ-loop
-after-path-requires c κs = some-left _ _ (c .before .before .before .before .before .loop-test .taken) (c .before .before .before .before .before .before .loop .inv .ends)
+after-path-requires c κs = step-holds _ _ (c .before .before .before .before .before .loop-test .taken) (c .before .before .before .before .before .before .loop .inv .ends)
 
 -- src/lib.rt:135:9
 sub-left : tie.Need-sub-left Inv-loop μ-loop

@@ -1,6 +1,5 @@
 use Rattle.set_writing.specs.Fronts.{joined-wrote}
 use mathlib.Core.Path.{refl}
-use native.Mathlib.Omega.{arith}
 use borrow.Author.Needs.{needs}
 use Rattle.set_writing.proofs.put_joined.Statement.{statement}
 use Rattle.set_writing.proofs.put_joined.Tie as tie

@@ -1,8 +1,6 @@
 use mathlib.Core.Path.{_∙_}
-use borrow.Author.Needs.{needs}
 use native.Mathlib.Omega.{arith}
 use Rattle.set_writing.specs.Unions.{Uniting, uniting-start, uniting-fits, uniting-next, uniting-end, unite-fits-in}
-use Rattle.set_writing.specs.Places.{some-left}
 use Rattle.set_writing.proofs.unite_beyond.Statement.{statement}
 use Rattle.set_writing.proofs.unite_beyond.Tie as tie
 use Rattle.set_writing.proofs.unite_beyond.Reads as reads
@@ -12,6 +10,7 @@ use Rattle.set_writing.proofs.beyond.Reads as beyond-reads
 use Rattle.set_writing.proofs.insert_path.Reads as insert-path-reads
 use Rattle.shapes.proofs.bodies.after_path.Reads as after-path-reads
 use Rattle.shapes.proofs.bodies.lead_path.Reads as lead-path-reads
+use Rattle.shapes.specs.KeyPaths.{step-holds}
 
 abbrev Inv-loop : tie.InvT-loop
 Inv-loop buffer₀ count set front more paths used₀ n₀ rest₀ left₀ buffer used n rest left = Uniting buffer₀ count set front more paths buffer n used left rest
@@ -29,7 +28,7 @@ loop-holds c = uniting-start _ (c .before .before .before .before .before .befor
 
 -- src/lib.rt:101:27
 lead-path-requires : tie.Need-lead-path-requires Inv-loop μ-loop
-lead-path-requires c κs = some-left _ _ (c .loop-test .taken) (c .before .loop .inv .ends)
+lead-path-requires c κs = step-holds _ _ (c .loop-test .taken) (c .before .loop .inv .ends)
 
 -- src/lib.rt:101:13
 beyond-requires : tie.Need-beyond-requires Inv-loop μ-loop
@@ -41,7 +40,7 @@ insert-path-requires c κs = uniting-fits (unite-fits-in (c .before .before .bef
 
 -- src/lib.rt:105:13
 after-path-requires : tie.Need-after-path-requires Inv-loop μ-loop
-after-path-requires c κs = some-left _ _ (c .before .before .before .before .before .before .loop-test .taken) (c .before .before .before .before .before .before .before .loop .inv .ends)
+after-path-requires c κs = step-holds _ _ (c .before .before .before .before .before .before .loop-test .taken) (c .before .before .before .before .before .before .before .loop .inv .ends)
 
 -- src/lib.rt:107:9
 sub-left : tie.Need-sub-left Inv-loop μ-loop

@@ -1,3 +1,4 @@
+use Rattle.tree_checks.specs.Asked.{padded-breaks, padded-accepts, padded-refused}
 use Rattle.tree_checks.specs.Asked.{asked-tree, asked-key, counted-bodies, breaks-key, counterexample, keeps-all}
 use Rattle.tree_checks.specs.ProfileKeys.{key-found}
 use borrow.Author.Needs.{needs}
@@ -26,7 +27,7 @@ witness-of-requires : tie.Need-witness-of-requires
 witness-of-requires c κs = key-found (search needs) (counted-bodies (c .before .before .before .before .before .before .before .before .before .before .before .before .before .before .before .pre .1) (c .before .before .before .before .before .before .before .before .before .record-at .ensures)) (c .before .before .before .first-broken .ensures .0) (c .before .before .if1 .taken)
 
 returns : tie.Need-returns
-returns c = breaks-key (c .before .before .before .before .before .before .before .before .before .before .before .before .before .before .before .before .pre .1) (c .before .before .before .before .before .before .before .before .before .before .record-at .ensures) (c .before .before .before .before .before .before .before .before .before .before .before .before .before .before .before .before .pre .0) (c .before .before .before .before .first-broken .ensures .0) (c .before .before .before .if1 .taken) (c .witness-of .result) (c .witness-of .ensures)
+returns c = (breaks-key (c .before .before .before .before .before .before .before .before .before .before .before .before .before .before .before .before .pre .1) (c .before .before .before .before .before .before .before .before .before .before .record-at .ensures) (c .before .before .before .before .before .before .before .before .before .before .before .before .before .before .before .before .pre .0) (c .before .before .before .before .first-broken .ensures .0) (c .before .before .before .if1 .taken) (c .witness-of .result) (c .witness-of .ensures), search (padded-breaks))
 
 body-at-front-requires : tie.Need-body-at-front-requires
 body-at-front-requires c κs = search needs
@@ -44,10 +45,10 @@ keeps-question-requires : tie.Need-keeps-question-requires
 keeps-question-requires c κs = search needs
 
 returns-2 : tie.Need-returns-2
-returns-2 c = search (counterexample, c .before .before .before .before .before .before .before .before .before .before .before .before .before .before .before .before .before .before .before .before .before .before .before .pre .1, c .before .before .before .before .before .before .before .before .before .before .before .before .before .before .before .before .before .record-at .ensures, c .before .before .before .before .before .before .before .before .before .before .before .before .before .before .before .before .before .before .before .before .before .before .before .pre .0, c .before .before .before .before .before .before .before .before .before .before .before .first-broken .ensures .0, c .before .before .before .before .before .before .before .before .before .before .if1 .left, c .before .before .before .before .before .before .before .before .before .body-at-front .ensures, c .before .before .before .test-key .ensures)
+returns-2 c = (search (counterexample, c .before .before .before .before .before .before .before .before .before .before .before .before .before .before .before .before .before .before .before .before .before .before .before .pre .1, c .before .before .before .before .before .before .before .before .before .before .before .before .before .before .before .before .before .record-at .ensures, c .before .before .before .before .before .before .before .before .before .before .before .before .before .before .before .before .before .before .before .before .before .before .before .pre .0, c .before .before .before .before .before .before .before .before .before .before .before .first-broken .ensures .0, c .before .before .before .before .before .before .before .before .before .before .if1 .left, c .before .before .before .before .before .before .before .before .before .body-at-front .ensures, c .before .before .before .test-key .ensures), search (padded-accepts))
 
 returns-3 : tie.Need-returns-3
-returns-3 c = keeps-all (c .before .before .before .before .before .before .before .before .before .before .before .before .before .before .before .before .before .before .before .before .before .before .before .pre .1) (c .before .before .before .before .before .before .before .before .before .before .before .before .before .before .before .before .before .record-at .ensures) (c .before .before .before .before .before .before .before .before .before .before .before .before .before .before .before .before .before .before .before .before .before .before .before .pre .0) (c .before .before .before .before .before .before .before .before .before .before .before .first-broken .ensures .0) (c .before .before .before .before .before .before .before .before .before .before .if1 .left) (c .before .before .before .before .before .before .before .before .before .body-at-front .ensures) (c .before .before .before .test-key .ensures) (search) (c .keeps-question .ensures)
+returns-3 c = (keeps-all (c .before .before .before .before .before .before .before .before .before .before .before .before .before .before .before .before .before .before .before .before .before .before .before .pre .1) (c .before .before .before .before .before .before .before .before .before .before .before .before .before .before .before .before .before .record-at .ensures) (c .before .before .before .before .before .before .before .before .before .before .before .before .before .before .before .before .before .before .before .before .before .before .before .pre .0) (c .before .before .before .before .before .before .before .before .before .before .before .first-broken .ensures .0) (c .before .before .before .before .before .before .before .before .before .before .if1 .left) (c .before .before .before .before .before .before .before .before .before .body-at-front .ensures) (c .before .before .before .test-key .ensures) (search) (c .keeps-question .ensures), padded-refused)
 
 pub check-accepted-spec : {M : Type 1} → statement M
 check-accepted-spec =

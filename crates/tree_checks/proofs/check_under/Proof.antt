@@ -1,3 +1,4 @@
+use Rattle.tree_checks.specs.Asked.{padded-refused}
 use Rattle.tree_checks.specs.Asked.{asked-of, checks-both-stop}
 use borrow.Author.Needs.{needs}
 use Rattle.tree_checks.proofs.check_under.Statement.{statement}
@@ -25,7 +26,7 @@ check-accepted-requires c κs = (search (asked-of), search needs)
 
 -- src/lib.rt:150:1
 returns : tie.Need-returns
-returns c = search (checks-both-stop)
+returns c = (search (checks-both-stop), padded-refused)
 
 -- src/lib.rt:150:1
 returns-2 : tie.Need-returns-2

@@ -1,3 +1,4 @@
+use Rattle.tree_checks.specs.Asked.{padded-broken, padded-kept}
 use Rattle.tree_checks.specs.Asked.{asked-tree, asked-key, tests-broken, tests-kept}
 use borrow.Author.Needs.{needs}
 use Rattle.tree_checks.proofs.keep_accepted.Statement.{statement}
@@ -24,10 +25,10 @@ enum-told : tie.Need-enum-told
 enum-told c = search needs
 
 returns : tie.Need-returns
-returns c = search (tests-broken)
+returns c = (search (tests-broken), search (padded-broken))
 
 returns-2 : tie.Need-returns-2
-returns-2 c = search (tests-kept)
+returns-2 c = (search (tests-kept), padded-kept)
 
 pub keep-accepted-spec : {M : Type 1} → statement M
 keep-accepted-spec =

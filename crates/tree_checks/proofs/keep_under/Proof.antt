@@ -1,3 +1,4 @@
+use Rattle.tree_checks.specs.Asked.{padded-none}
 use Rattle.tree_checks.specs.Asked.{asked-of, tests-both-stop}
 use borrow.Author.Needs.{needs}
 use Rattle.tree_checks.proofs.keep_under.Statement.{statement}
@@ -25,7 +26,7 @@ keep-accepted-requires c κs = search (asked-of)
 
 -- src/lib.rt:64:1
 returns : tie.Need-returns
-returns c = search (tests-both-stop)
+returns c = (search (tests-both-stop), padded-none)
 
 -- src/lib.rt:64:1
 returns-2 : tie.Need-returns-2

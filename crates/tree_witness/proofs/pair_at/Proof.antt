@@ -1,7 +1,7 @@
 use native.Mathlib.Omega.{arith}
 use borrow.Author.Needs.{needs}
 use Rattle.key_pairs.specs.Pairs.{each-one}
-use Rattle.tree_witness.specs.Pairs.{pair-none}
+use Rattle.tree_witness.specs.Pairs.{pair-none, pair-some}
 use Rattle.tree_witness.proofs.pair_at.Statement.{statement}
 use Rattle.tree_witness.proofs.pair_at.Tie as tie
 use Rattle.tree_witness.proofs.pair_at.Reads as reads
@@ -27,7 +27,7 @@ first-pair-requires : tie.Need-first-pair-requires
 first-pair-requires c κs = let p = c .before .before .before .before .before .before .before .before .pre in ((p .0 .0, (let e = c .before .before .before .before .before .count .ensures .0 in let h = c .before .before .before .before .if1 .left in omega arith), p .0 .1, p .0 .2), (c .before .put-firsts .ensures, each-one (p .1) _ (let e = c .before .before .before .before .before .count .ensures .0 in let h = c .before .before .before .before .if1 .left in omega arith)))
 
 returns-2 : tie.Need-returns-2
-returns-2 c = search needs
+returns-2 c = pair-some (let e = c .before .before .before .before .before .before .count .ensures .0 in let h = c .before .before .before .before .before .if1 .left in omega arith) (c .first-pair .ensures)
 
 pub pair-at-spec : {M : Type 1} → statement M
 pair-at-spec =

@@ -1,4 +1,3 @@
-use native.Mathlib.Omega.{arith}
 use borrow.Author.Needs.{needs}
 use Rattle.checks.specs.Found.{first-stops-here, second-stops-here, included-here, not-included-here, short-path}
 use Rattle.checks.proofs.inclusions.include_paths.Statement.{statement}

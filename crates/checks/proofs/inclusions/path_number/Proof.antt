@@ -1,8 +1,7 @@
-use native.Mathlib.Omega.{arith}
 use borrow.Author.Needs.{needs}
 use mathlib.Core.Path.{sym, _∙_}
 use borrow.Author.Tests.{not-true, not-false}
-use Rattle.theory_checks.specs.Paths.{path-bad, path-invalid, path-good}
+use Rattle.checks.specs.Paths.{path-bad, path-invalid, path-good}
 use borrow.Author.Needs.{needs}
 use Rattle.checks.proofs.inclusions.path_number.Statement.{statement}
 use Rattle.checks.proofs.inclusions.path_number.Tie as tie

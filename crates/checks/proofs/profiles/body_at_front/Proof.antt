@@ -1,13 +1,13 @@
-use native.Mathlib.Omega.{arith}
 use borrow.Author.Needs.{needs}
 use mathlib.Core.Path.{sym, _∙_}
 use borrow.Rule.Slice.PartAt.{part-to-end}
-use Rattle.theory_checks.specs.Fronts.{front-few, front-short, front-cut, front-whole}
+use Rattle.checks.specs.Fronts.{front-few, front-short, front-cut}
 use mathlib.Core.Path.{sym, _∙_}
 use borrow.Rule.Slice.PartAt.{part-to-end}
-use Rattle.theory_checks.specs.Fronts.{front-few, front-short, front-cut, front-whole}
+use Rattle.checks.specs.Fronts.{front-few, front-short, front-cut}
 use borrow.Author.Needs.{needs}
 use Rattle.checks.proofs.profiles.body_at_front.Statement.{statement}
+use Rattle.theory_records.specs.HeadTests.{body-part}
 use Rattle.checks.proofs.profiles.body_at_front.Tie as tie
 use Rattle.checks.proofs.profiles.body_at_front.Reads as reads
 use Rattle.checks.proofs.profiles.body_at_front.Lts as lts
@@ -59,7 +59,7 @@ part-result-end-2 c = search needs
 
 -- src/profiles.rt:53:1
 returns-4 : tie.Need-returns-4
-returns-4 c = front-whole _ _ (c .before .before .before .word .ensures .0)
+returns-4 c = body-part _ (c .before .before .before .word .ensures .0)
 
 pub body-at-front-spec : {M : Type 1} → statement M
 body-at-front-spec =

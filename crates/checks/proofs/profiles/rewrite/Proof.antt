@@ -1,54 +1,51 @@
-use native.Mathlib.Omega.{arith}
-use Rattle.checks.specs.Found.{small-rewrites, fits-answer, rewrite-stops, rewrite-fills}
+use Rattle.shapes.specs.Classes.{Bytes}
+use Rattle.checks.specs.Found.{small-rewrites, rewrite-stops, rewrite-fills, fits-answer}
 use borrow.Author.Needs.{needs}
 use Rattle.checks.proofs.profiles.rewrite.Statement.{statement}
 use Rattle.checks.proofs.profiles.rewrite.Tie as tie
 use Rattle.checks.proofs.profiles.rewrite.Reads as reads
 use Rattle.checks.proofs.profiles.rewrite.Lts as lts
-use Rattle.answers.proofs.of_input.Reads as of-input-reads
+use Rattle.acceptance.proofs.accept_profile.Reads as accept-profile-reads
 use Rattle.answers.proofs.small_answer.Reads as small-answer-reads
 use Rattle.writing.proofs.put.Reads as put-reads
-use Rattle.records.proofs.profile.read_profile.Reads as read-profile-reads
 
--- src/profiles.rt:38:35
+-- src/profiles.rt:21:35
 small-answer-requires : tie.Need-small-answer-requires
 small-answer-requires c κs = search needs
 
--- src/profiles.rt:38:9
+-- src/profiles.rt:21:9
 returns : tie.Need-returns
 returns c = search (small-rewrites)
 
--- src/profiles.rt:40:9
-read-profile-requires : tie.Need-read-profile-requires
-read-profile-requires c κs = search needs
+-- src/profiles.rt:23:9
+accept-profile-requires : tie.Need-accept-profile-requires
+accept-profile-requires c κs = search needs
 
--- src/profiles.rt:42:9
-of-input-requires : tie.Need-of-input-requires
-of-input-requires c κs = search needs
-
--- src/profiles.rt:44:26
+-- src/profiles.rt:26:26
 enum-known-outcome : tie.Need-enum-known-outcome
 enum-known-outcome c = search needs
 
--- src/profiles.rt:46:33
+-- src/profiles.rt:28:28
 enum-told : tie.Need-enum-told
 enum-told c = search needs
 
--- src/profiles.rt:46:13
+-- src/profiles.rt:28:17
 put-requires : tie.Need-put-requires
 put-requires c κs = search (fits-answer)
 
--- src/profiles.rt:34:1
+-- src/profiles.rt:17:1
 returns-2 : tie.Need-returns-2
 returns-2 c = search (rewrite-stops)
 
--- src/profiles.rt:34:1
+-- src/profiles.rt:17:1
 same-length : tie.Need-same-length
 same-length c = search needs
 
--- src/profiles.rt:34:1
+-- src/profiles.rt:17:1
 returns-3 : tie.Need-returns-3
-returns-3 c = search (rewrite-fills)
+returns-3 c =
+    let small : Bytes (denote.Ref.now (c .before .before .before .before .before .before .before .before .before .before .args .profile)) = λ i. c .before .before .before .before .before .before .before .before .before .shared-slice-known .given i .fits in
+    search (rewrite-fills)
 
 pub rewrite-spec : {M : Type 1} → statement M
 rewrite-spec =
@@ -56,8 +53,7 @@ rewrite-spec =
     (tie.spec
     small-answer-requires
     returns
-    read-profile-requires
-    of-input-requires
+    accept-profile-requires
     enum-known-outcome
     enum-told
     put-requires

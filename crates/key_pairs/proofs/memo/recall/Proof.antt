@@ -5,7 +5,7 @@ use Rattle.key_pairs.proofs.memo.recall.Statement.{statement}
 use Rattle.key_pairs.proofs.memo.recall.Tie as tie
 use Rattle.key_pairs.proofs.memo.recall.Reads as reads
 use Rattle.key_pairs.proofs.memo.recall.Lts as lts
-use Rattle.key_pairs.proofs.memo.wide.Reads as wide-reads
+use Rattle.tree_nodes.proofs.tables.wide.Reads as wide-reads
 
 -- src/memo.rt:25:17
 add-wide : tie.Need-add-wide

@@ -6,7 +6,7 @@ use Rattle.lines.proofs.check.last_is.Tie as tie
 use Rattle.lines.proofs.check.last_is.Reads as reads
 use Rattle.lines.proofs.check.last_is.Lts as lts
 use Rattle.lines.proofs.follow.line_key.Reads as line-key-reads
-use Rattle.joins.proofs.same.Reads as same-reads
+use Rattle.shapes.proofs.names.same_bytes.Reads as same-bytes-reads
 use Rattle.shapes.proofs.fields.word.Reads as word-reads
 
 -- src/check.rt:31:9
@@ -26,20 +26,20 @@ word-requires : tie.Need-word-requires
 word-requires c κs = search needs
 
 -- src/check.rt:36:18
-sub-same : tie.Need-sub-same
-sub-same c = search (question-start)
+sub-same-bytes : tie.Need-sub-same-bytes
+sub-same-bytes c = search (question-start)
 
 -- src/check.rt:36:18
-part-same-start : tie.Need-part-same-start
-part-same-start c = search (question-start)
+part-same-bytes-start : tie.Need-part-same-bytes-start
+part-same-bytes-start c = search (question-start)
 
 -- src/check.rt:36:18
-part-same-end : tie.Need-part-same-end
-part-same-end c = search (question-end)
+part-same-bytes-end : tie.Need-part-same-bytes-end
+part-same-bytes-end c = search (question-end)
 
 -- src/check.rt:36:8
-same-requires : tie.Need-same-requires
-same-requires c κs = search needs
+same-bytes-requires : tie.Need-same-bytes-requires
+same-bytes-requires c κs = search needs
 
 -- src/check.rt:37:9
 returns-2 : tie.Need-returns-2
@@ -57,9 +57,9 @@ last-is-spec =
     sub-last
     line-key-requires
     word-requires
-    sub-same
-    part-same-start
-    part-same-end
-    same-requires
+    sub-same-bytes
+    part-same-bytes-start
+    part-same-bytes-end
+    same-bytes-requires
     returns-2
     returns-3)

@@ -4,7 +4,7 @@ use Rattle.lines.proofs.follow.cites.Statement.{statement}
 use Rattle.lines.proofs.follow.cites.Tie as tie
 use Rattle.lines.proofs.follow.cites.Reads as reads
 use Rattle.lines.proofs.follow.cites.Lts as lts
-use Rattle.joins.proofs.same.Reads as same-reads
+use Rattle.shapes.proofs.names.same_bytes.Reads as same-bytes-reads
 use Rattle.places.proofs.record_at.Reads as record-at-reads
 use Rattle.shapes.proofs.fields.word.Reads as word-reads
 
@@ -21,20 +21,20 @@ word-requires : tie.Need-word-requires
 word-requires c κs = search (cite-head)
 
 -- src/follow.rt:69:10
-sub-same : tie.Need-sub-same
-sub-same c = search (cite-start)
+sub-same-bytes : tie.Need-sub-same-bytes
+sub-same-bytes c = search (cite-start)
 
 -- src/follow.rt:69:10
-part-same-start : tie.Need-part-same-start
-part-same-start c = search (cite-start)
+part-same-bytes-start : tie.Need-part-same-bytes-start
+part-same-bytes-start c = search (cite-start)
 
 -- src/follow.rt:69:10
-part-same-end : tie.Need-part-same-end
-part-same-end c = search (cite-end)
+part-same-bytes-end : tie.Need-part-same-bytes-end
+part-same-bytes-end c = search (cite-end)
 
 -- src/follow.rt:69:5
-same-requires : tie.Need-same-requires
-same-requires c κs = search needs
+same-bytes-requires : tie.Need-same-bytes-requires
+same-bytes-requires c κs = search needs
 
 -- src/follow.rt:60:1
 returns-2 : tie.Need-returns-2
@@ -47,8 +47,8 @@ cites-spec =
     returns
     record-at-requires
     word-requires
-    sub-same
-    part-same-start
-    part-same-end
-    same-requires
+    sub-same-bytes
+    part-same-bytes-start
+    part-same-bytes-end
+    same-bytes-requires
     returns-2)

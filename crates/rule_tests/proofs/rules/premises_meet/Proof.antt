@@ -5,7 +5,7 @@ use Rattle.rule_tests.proofs.rules.premises_meet.Statement.{statement}
 use Rattle.rule_tests.proofs.rules.premises_meet.Tie as tie
 use Rattle.rule_tests.proofs.rules.premises_meet.Reads as reads
 use Rattle.rule_tests.proofs.rules.premises_meet.Lts as lts
-use Rattle.joins.proofs.simple.Reads as simple-reads
+use Rattle.key_shapes.proofs.symbols.is_simple.Reads as is-simple-reads
 use Rattle.joins.proofs.join_is.Reads as join-is-reads
 use Rattle.rule_tests.proofs.sets.is_prefixed.Reads as is-prefixed-reads
 use Rattle.shapes.proofs.keys.context.Reads as context-reads
@@ -16,8 +16,8 @@ target-requires : tie.Need-target-requires
 target-requires c κs = search needs
 
 -- src/rules.rt:293:9
-simple-requires : tie.Need-simple-requires
-simple-requires c κs = search needs
+is-simple-requires : tie.Need-is-simple-requires
+is-simple-requires c κs = search needs
 
 -- src/rules.rt:294:9
 returns : tie.Need-returns
@@ -56,7 +56,7 @@ premises-meet-spec =
     tie.close
     (tie.spec
     target-requires
-    simple-requires
+    is-simple-requires
     returns
     is-prefixed-requires
     returns-2

@@ -2,6 +2,7 @@ use Rattle.step_writing.specs.StepLines.{unite-fits, united-yes, united-
 use Rattle.step_writing.specs.Fits.{body-put}
 use borrow.Author.Needs.{needs}
 use Rattle.step_writing.proofs.chain.united_set.Statement.{statement}
+use Rattle.theory_derive.specs.Spots.{holdsEmpty}
 use Rattle.step_writing.proofs.chain.united_set.Tie as tie
 
 count-requires : tie.Need-count-requires
@@ -26,6 +27,7 @@ same-length : tie.Need-same-length
 same-length c = search needs
 
 returns : tie.Need-returns
+unfolding holdsEmpty
 returns c = search (united-yes)
 
 put-requires : tie.Need-put-requires
@@ -35,6 +37,7 @@ same-length-2 : tie.Need-same-length-2
 same-length-2 c = search needs
 
 returns-2 : tie.Need-returns-2
+unfolding holdsEmpty
 returns-2 c = search (united-no)
 
 pub united-set-spec : {M : Type 1} → statement M

@@ -3,16 +3,17 @@ use Rattle.step_writing.specs.StepFits.{meeting-fits}
 use Rattle.step_writing.specs.Parts.{united-fits}
 use borrow.Author.Needs.{needs}
 use Rattle.step_writing.proofs.chain.write_chain_lines.Statement.{statement}
+use Rattle.theory_derive.specs.Spots.{holdsEmpty}
 use Rattle.step_writing.proofs.chain.write_chain_lines.Tie as tie
 
 write-meeting-requires : tie.Need-write-meeting-requires
 write-meeting-requires c κs = search (meeting-fits)
 
-add-write-part : tie.Need-add-write-part
-add-write-part c = search needs
+add-first : tie.Need-add-first
+add-first c = search needs
 
-add-write-part-2 : tie.Need-add-write-part-2
-add-write-part-2 c = search needs
+add-second : tie.Need-add-second
+add-second c = search needs
 
 write-part-requires : tie.Need-write-part-requires
 write-part-requires c κs = search (needs, united-fits)
@@ -30,6 +31,7 @@ same-length : tie.Need-same-length
 same-length c = search needs
 
 returns : tie.Need-returns
+unfolding holdsEmpty
 returns c =
     let along = c .before .before in
     let test = along .before .before in
@@ -41,6 +43,7 @@ same-length-2 : tie.Need-same-length-2
 same-length-2 c = search needs
 
 returns-2 : tie.Need-returns-2
+unfolding holdsEmpty
 returns-2 c =
     let joined = c .before .before .before .before in
     let meeting = joined .before .before .before .before in
@@ -51,8 +54,8 @@ write-chain-lines-spec =
     tie.close
     (tie.spec
     write-meeting-requires
-    add-write-part
-    add-write-part-2
+    add-first
+    add-second
     write-part-requires
     holds-empty-requires
     add-write-along

@@ -17,8 +17,8 @@ sub-write-along c = search needs
 write-along-requires : tie.Need-write-along-requires
 write-along-requires c κs = search needs
 
-add-write-part : tie.Need-add-write-part
-add-write-part c = search needs
+add-first : tie.Need-add-first
+add-first c = search needs
 
 write-part-requires : tie.Need-write-part-requires
 write-part-requires c κs = search (needs, united-fits)
@@ -42,7 +42,7 @@ write-meeting-spec =
     write-fronted-requires
     sub-write-along
     write-along-requires
-    add-write-part
+    add-first
     write-part-requires
     same-length
     returns)
