@@ -46,7 +46,7 @@ impl Operation {
     }
 }
 
-/// The case of the answer and its values, as crate bench_exports writes them: refusal number, input, record; or bytes used; or of a witness
+/// The case of the answer and its values, as crate test_exports writes them: refusal number, input, record; or bytes used; or of a witness
 /// context and targets.
 pub type Words = [usize; 4];
 

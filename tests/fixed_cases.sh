@@ -36,7 +36,7 @@ echo "reference: $lines wrong lines caught"
 
 # 2. The program replay.
 "$work/fixed_cases" cases >"$work/fixed_stream"
-tests/run_program.sh replay <"$work/fixed_stream" >"$work/fixed_found" || fail "replay did not run"
+tests/run_program.sh test_replay <"$work/fixed_stream" >"$work/fixed_found" || fail "replay did not run"
 "$work/fixed_cases" compare <"$work/fixed_found" >"$work/fixed_compared" || {
     cat "$work/fixed_compared"
     fail "replay differs from 01"

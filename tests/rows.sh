@@ -1,5 +1,5 @@
 #!/bin/sh
-# Holds bench/ROW.profile and bench/ROW.question to bench/rows.txt: the records are made again from what a reader sees there, and every byte is
+# Holds examples/ROW.profile and examples/ROW.question to examples/rows.txt: the records are made again from what a reader sees there, and every byte is
 # compared. No other profile or question may stand beside them, and a changed row has to be seen.
 set -eu
 root=$(CDPATH='' cd -- "$(dirname -- "$0")/.." && pwd)
@@ -72,7 +72,7 @@ records() {
 # the same lines off the files
 files() {
     (
-        cd "$root/bench"
+        cd "$root/examples"
         for file in *.profile *.question; do
             printf '%s' "$file"
             od -An -v -tx1 "$file" | tr -d '\n'
@@ -81,12 +81,12 @@ files() {
     ) | sort
 }
 
-records "$root/bench/rows.txt" | sort >"$work/wanted"
+records "$root/examples/rows.txt" | sort >"$work/wanted"
 files >"$work/found"
-diff "$work/wanted" "$work/found" || { echo "rows: the files in bench/ are not what rows.txt says" >&2; exit 1; }
+diff "$work/wanted" "$work/found" || { echo "rows: the files in examples/ are not what rows.txt says" >&2; exit 1; }
 [ "$(wc -l <"$work/found")" -ge 26 ] || { echo "rows: only $(wc -l <"$work/found") files" >&2; exit 1; }
 # one path of one row changed
-sed 's/^b\(.*\)@seq/b\1@id/' "$root/bench/rows.txt" >"$work/rows.txt"
+sed 's/^b\(.*\)@seq/b\1@id/' "$root/examples/rows.txt" >"$work/rows.txt"
 records "$work/rows.txt" | sort >"$work/changed"
 if cmp -s "$work/changed" "$work/found"; then
     echo "rows: a changed row is not seen" >&2

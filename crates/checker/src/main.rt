@@ -1,20 +1,20 @@
 // `checker proof PROFILE QUESTION PROOF` and `checker tree PROFILE QUESTION TREE`: print `accepted`, or `refused` with number, input and record;
-// of a tree, with the witness where a key is broken; or `unreadable` with the name of a file. What is decided stands in `proof_checks` and
-// `tree_checks`. No decider is reached.
-use answers::Checking;
-use files::PROFILE_READ;
-use files::PROOF_READ;
-use files::QUESTION_READ;
-use files::TREE_READ;
-use files::is_word;
-use files::part_read;
-use files::print;
-use files::print_refusal;
-use files::read_argument;
-use files::unread;
-use proof_checks::check_proof;
-use tree_checks::check_counterexample;
-use witness_lines::print_countering;
+// of a tree, with the witness where a key is broken; or `unreadable` with the name of a file. What is decided stands in `op_proof` and
+// `op_tree`. No decider is reached.
+use op_answers::Checking;
+use op_proof::check_proof;
+use op_tree::check_counterexample;
+use program_files::PROFILE_READ;
+use program_files::PROOF_READ;
+use program_files::QUESTION_READ;
+use program_files::TREE_READ;
+use program_files::is_word;
+use program_files::part_read;
+use program_files::print;
+use program_files::print_refusal;
+use program_files::read_argument;
+use program_files::unread;
+use program_witness::print_countering;
 
 // The program's own name, the word and the three files
 const WORDS: usize = 5;

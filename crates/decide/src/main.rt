@@ -1,16 +1,16 @@
 // `decide PROFILE QUESTION OUT`: prints `implied` or `not implied` with the bytes of evidence that it writes to OUT, a proof or a tree; or
-// `refused` with number, input and record; or `unreadable` with the name of a file. Thin over `culvertecho::decide`.
-use answers::Deciding;
-use culvertecho::decide;
-use files::ANSWER_ROOM;
-use files::PROFILE_READ;
-use files::QUESTION_READ;
-use files::part_read;
-use files::print;
-use files::print_refusal;
-use files::read_argument;
-use files::unread;
-use files::write_used;
+// `refused` with number, input and record; or `unreadable` with the name of a file. Thin over `op_decide::decide`.
+use op_answers::Deciding;
+use op_decide::decide;
+use program_files::ANSWER_ROOM;
+use program_files::PROFILE_READ;
+use program_files::QUESTION_READ;
+use program_files::part_read;
+use program_files::print;
+use program_files::print_refusal;
+use program_files::read_argument;
+use program_files::unread;
+use program_files::write_used;
 
 // The program's own name and the three files
 const WORDS: usize = 4;

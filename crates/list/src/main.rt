@@ -1,14 +1,14 @@
 // The listing program of document 01: reads a tree file on standard input, with labels taken as in the profile that it opens by the fixed name
 // `profile.key`, and prints all blocks of its listing; on a refusal only `refused` with number, input and record.
-use answers::Listing;
-use files::ANSWER_ROOM;
-use files::PROFILE_READ;
-use files::TREE_READ;
-use files::print;
-use files::print_refusal;
-use files::read_or_empty;
 use libc::STDIN_FILENO;
-use listings::list_block;
+use op_answers::Listing;
+use op_list::list_block;
+use program_files::ANSWER_ROOM;
+use program_files::PROFILE_READ;
+use program_files::TREE_READ;
+use program_files::print;
+use program_files::print_refusal;
+use program_files::read_or_empty;
 
 // The first line and 4,096 nodes are lines of five blocks.
 const BLOCKS: usize = 5;

@@ -1,22 +1,22 @@
 // The program `profile`: rewrite a profile, give the body of a record, test inclusion of two paths, test whether a tree keeps a key. Thin over
 // the public operations: it reads files, calls one operation and prints its answer; where a file cannot be read, `unreadable` and its name.
-use answers::Inclusion;
-use answers::Rewriting;
-use files::ANSWER_ROOM;
-use files::Number;
-use files::PATH_READ;
-use files::PROFILE_READ;
-use files::QUESTION_READ;
-use files::TREE_READ;
-use files::is_word;
-use files::number_argument;
-use files::part_read;
-use files::print;
-use files::print_refusal;
-use files::read_argument;
-use files::unread;
-use files::write_used;
-use witness_lines::print_keeping;
+use op_answers::Inclusion;
+use op_answers::Rewriting;
+use program_files::ANSWER_ROOM;
+use program_files::Number;
+use program_files::PATH_READ;
+use program_files::PROFILE_READ;
+use program_files::QUESTION_READ;
+use program_files::TREE_READ;
+use program_files::is_word;
+use program_files::number_argument;
+use program_files::part_read;
+use program_files::print;
+use program_files::print_refusal;
+use program_files::read_argument;
+use program_files::unread;
+use program_files::write_used;
+use program_witness::print_keeping;
 
 fn usage() {
     print(
@@ -31,7 +31,7 @@ fn rewrite() {
         return;
     }
     let mut answer = [0u8; ANSWER_ROOM];
-    let rewritten = checks::profiles::rewrite(part_read(first, &profile), &mut answer);
+    let rewritten = op_profile::profiles::rewrite(part_read(first, &profile), &mut answer);
     match rewritten {
         Rewriting::Refused(r) => print_refusal(r.number, r.input, r.place),
         Rewriting::Rewritten(used) => write_used(3, b"rewritten", &answer, used),
@@ -44,7 +44,7 @@ fn body(n: usize) {
     if unread(first) {
         return;
     }
-    print(checks::profiles::body(part_read(first, &profile), n));
+    print(op_profile::profiles::body(part_read(first, &profile), n));
 }
 
 fn include() {
@@ -63,7 +63,7 @@ fn include() {
     if unread(third) {
         return;
     }
-    let included = checks::inclusions::include(
+    let included = op_profile::inclusions::include(
         part_read(first, &profile),
         part_read(second, &path),
         part_read(third, &other),
@@ -91,7 +91,7 @@ fn keep() {
     if unread(third) {
         return;
     }
-    print_keeping(tree_checks::keep(
+    print_keeping(op_tree::keep(
         part_read(first, &profile),
         part_read(second, &question),
         part_read(third, &tree),

@@ -13,10 +13,10 @@ use Rattle.meaning.specs.Records.{readKey, keyIn, isSome, pathBytes}
 use Rattle.theory_paths.specs.Bools.{bool-eq, same-eq, eq-same}
 use Rattle.theory_paths.specs.Good
 use Rattle.theory_paths.specs.Good.{GoodKey}
-use Rattle.theory_lines.specs.SameParts.{sameSets, sets-eq, eq-sets}
-use Rattle.shapes.specs.Parts.{setEnds, setOf, setIn}
-use Rattle.shapes.specs.KeyPaths.{set-holds, paths-are, paths-count}
-use Rattle.shapes.specs.PathBytes.{paths-bytes}
+use Rattle.theory_rule_tests.specs.SameParts.{sameSets, sets-eq, eq-sets}
+use Rattle.read_record.specs.Parts.{setEnds, setOf, setIn}
+use Rattle.read_record.specs.KeyPaths.{set-holds, paths-are, paths-count}
+use Rattle.read_record.specs.PathBytes.{paths-bytes}
 
 -- two bodies are keys
 pub record TwoKeys (p k : List ℕ) : Type 0 where

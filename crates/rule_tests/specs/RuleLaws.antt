@@ -19,13 +19,13 @@ use Rattle.meaning.specs.Rules.{withEmpty}
 use Rattle.theory_paths.specs.Bools.{bool-eq, same-eq, eq-same, and-left, and-right, both, of-true, true-of, false-of}
 use Rattle.theory_paths.specs.Normal.{normal-left}
 use Rattle.theory_paths.specs.Lists.{with-empty-last}
-use Rattle.theory_lines.specs.Beginnings.{begins, begins-split}
-use Rattle.theory_lines.specs.SameParts.{sameContext, sameSets, sets-eq, eq-sets}
-use Rattle.theory_lines.specs.Subnodes.{goesOn, further, onlyPath, lastPath}
-use Rattle.theory_lines.specs.Cuts.{endsPath, beforeEnd, startsAny}
-use Rattle.theory_lines.specs.Interactions.{prefixed, interactionTest}
-use Rattle.joins.specs.Joins.{BothNormal}
-use Rattle.joins.specs.Forms.{isBeginning, beginning-rest}
+use Rattle.theory_rule_tests.specs.Beginnings.{begins, begins-split}
+use Rattle.theory_rule_tests.specs.SameParts.{sameContext, sameSets, sets-eq, eq-sets}
+use Rattle.theory_rule_tests.specs.Subnodes.{goesOn, further, onlyPath, lastPath}
+use Rattle.theory_rule_tests.specs.Cuts.{endsPath, beforeEnd, startsAny}
+use Rattle.theory_rule_tests.specs.Interactions.{prefixed, interactionTest}
+use Rattle.rule_joins.specs.Joins.{BothNormal}
+use Rattle.rule_joins.specs.Forms.{isBeginning, beginning-rest}
 use Rattle.rule_tests.specs.Walks.{beginning-is}
 use Rattle.rule_tests.specs.Compare.{same-sym, stop, go-on}
 use Rattle.rule_tests.specs.Parts.{TwoKeys, LineKey, LineKeys}

@@ -8,14 +8,14 @@ use lib.Dec.{T}
 use lib.ListN.{length, drop, drop-of-length-le}
 use borrow.Author.Tests.{not-true, not-false}
 use Rattle.meaning.specs.Lists.{every, same}
-use Rattle.shapes.specs.Parts.{holdsPath, leadPath, afterPath}
-use Rattle.shapes.specs.KeyPaths.{AtPath}
-use Rattle.shapes.specs.Hunts.{Stands, here, stands-holds, stands-lead, stands-next, path-step}
+use Rattle.read_record.specs.Parts.{holdsPath, leadPath, afterPath}
+use Rattle.read_record.specs.KeyPaths.{AtPath}
+use Rattle.read_record.specs.Hunts.{Stands, here, stands-holds, stands-lead, stands-next, path-step}
 use Rattle.theory_paths.specs.Bools.{bool-eq}
-use Rattle.theory_lines.specs.SameParts.{sameSets}
-use Rattle.theory_lines.specs.Interactions.{prefixed}
-use Rattle.theory_lines.specs.Beginnings.{begins, begins-split, begins-append}
-use Rattle.joins.specs.Forms.{isBeginning, beginning-rest, beginning-of}
+use Rattle.theory_rule_tests.specs.SameParts.{sameSets}
+use Rattle.theory_rule_tests.specs.Interactions.{prefixed}
+use Rattle.theory_rule_tests.specs.Beginnings.{begins, begins-split, begins-append}
+use Rattle.rule_joins.specs.Forms.{isBeginning, beginning-rest, beginning-of}
 
 pub beginning-is : (s p : List ℕ) → isBeginning s p ≡ begins s p
 beginning-is s p =

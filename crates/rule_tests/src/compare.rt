@@ -1,5 +1,5 @@
 // Comparing a path with two others, one behind the other, in place.
-use shapes::names::same_bytes;
+use read_record::names::same_bytes;
 ghost use mathlib.Core.Path.{_≡_};
 ghost use mathlib.Core.List.{_++_};
 ghost use Rattle.meaning.specs.Lists.{same as isSame};

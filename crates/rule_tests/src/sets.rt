@@ -1,19 +1,19 @@
 // Sets of key paths as they stand in key bodies: "count of key paths; length and symbols of each".
 use crate::compare::is_both;
-use joins::begins;
-use shapes::bodies::after_path;
-use shapes::bodies::lead_path;
-use shapes::keys::count;
-use shapes::keys::counted_set;
-use shapes::keys::paths;
-use shapes::names::same_bytes;
+use read_record::bodies::after_path;
+use read_record::bodies::lead_path;
+use read_record::keys::count;
+use read_record::keys::counted_set;
+use read_record::keys::paths;
+use read_record::names::same_bytes;
+use rule_joins::begins;
 ghost use mathlib.Core.Path.{_≡_};
 ghost use mathlib.Core.Bool.{true};
 ghost use Rattle.meaning.specs.Lists.{any, same as isSame};
 ghost use Rattle.meaning.specs.Records.{readKey, keyIn, isSome};
-ghost use Rattle.theory_lines.specs.Beginnings.{begins as isBeginning};
-ghost use Rattle.theory_lines.specs.SameParts.{allBegin, allAmong, sameSets};
-ghost use Rattle.theory_lines.specs.Interactions.{prefixed};
+ghost use Rattle.theory_rule_tests.specs.Beginnings.{begins as isBeginning};
+ghost use Rattle.theory_rule_tests.specs.SameParts.{allBegin, allAmong, sameSets};
+ghost use Rattle.theory_rule_tests.specs.Interactions.{prefixed};
 ghost use Rattle.rule_tests.specs.Parts.{TwoKeys};
 
 // Equal sets are equal bytes: each set has one encoding.

@@ -17,7 +17,7 @@ use Rattle.theory_paths.specs.Good.{GoodKey}
 use Rattle.theory_records.specs.Profiles.{accepted-labels, accepted-keys, accepted-few}
 use Rattle.theory_records.specs.Questions.{question-accepts}
 use Rattle.theory_records.specs.WrittenInputs.{LineFits, proof-walked-written}
-use Rattle.theory_operations.specs.Refusing.{unless-sound, sound-more, sound-end, fits-size}
+use Rattle.theory_answers.specs.Refusing.{unless-sound, sound-more, sound-end, fits-size}
 use Rattle.theory_rules.specs.Accepted.{accepted-implied}
 use Rattle.theory_derive.specs.Spots.{Taken, Ends, Chain}
 use Rattle.theory_derive.specs.Singles.{single-clear}

@@ -9,7 +9,7 @@ use Rattle.meaning.specs.Refusals
 use Rattle.meaning.specs.Refusals.{Refusal, sound, profileRefusal, questionRefusal, questionIn, answerRefusal}
 use Rattle.meaning.specs.Pattern.{IsU, tOf, writtenTree}
 use Rattle.meaning.specs.Operations.{Decides, refusedBy, filled, implied, notImplied, singleIn, labelsIn, keysIn}
-use Rattle.theory_operations.specs.Refusing.{unless-small, unless-sound, unless-refused, sound-more, sound-end, first-passes, answer-large, profile-settled, question-settled, first-named, sound-number}
+use Rattle.theory_answers.specs.Refusing.{unless-small, unless-sound, unless-refused, sound-more, sound-end, first-passes, answer-large, profile-settled, question-settled, first-named, sound-number}
 use Rattle.theory_derive.specs.Spots.{Taken, Ends, Chain}
 use Rattle.theory_decide.specs.Implied.{proofBytesOf, implied-written}
 use Rattle.theory_decide.specs.NotImplied.{not-implied-written}

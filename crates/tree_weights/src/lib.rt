@@ -2,19 +2,19 @@
 // order of those that are no attributes, mixed into 32 bits, such that value-equal nodes have equal weights: attributes count in whatever order.
 // The low part of a weight counts the nodes from there down, exactly, since a sum keeps it and no node but the root has 4,096. So nodes of one
 // weight never lie below each other, and all calls of `node_eq` on them together visit at most the square of the nodes, whatever else collides.
-use shapes::classes::is_attribute;
-use shapes::classes::is_element;
-use shapes::limits::TREE_NODES;
-use tree_nodes::fields::label;
-use tree_nodes::fields::parent;
-use tree_nodes::fields::size;
-use tree_nodes::fields::value;
-use tree_nodes::tables::at;
-use tree_nodes::tables::blank;
+use read_record::classes::is_attribute;
+use read_record::classes::is_element;
+use read_record::limits::TREE_NODES;
+use tree_table::fields::label;
+use tree_table::fields::parent;
+use tree_table::fields::size;
+use tree_table::fields::value;
+use tree_table::tables::at;
+use tree_table::tables::blank;
 ghost use mathlib.Core.Path.{_≡_};
 ghost use Prim.Native.Nat.{ℕ, _<_};
 ghost use lib.ListN.{length, getD};
-ghost use Rattle.tree_nodes.specs.FileTable.{fileTable, classBy, TreeBytes};
+ghost use Rattle.tree_table.specs.FileTable.{fileTable, classBy, TreeBytes};
 ghost use Rattle.tree_weights.specs.Sums.{unlessAttribute};
 ghost use Rattle.tree_weights.specs.Weights.{Weighed, mix, weightOf};
 

@@ -7,8 +7,8 @@ use lib.ListN.{length, getD, take, drop, replicate}
 use Rattle.meaning.specs.Paths.{Class}
 use Rattle.meaning.specs.Trees.{Table, IsTree}
 use Rattle.meaning.specs.Keys.{Key, FirstWitness}
-use Rattle.answers.specs.declared.Witness.{Witness}
-use Rattle.answers.specs.Cases.{numbersOf, Padded}
+use Rattle.op_answers.specs.declared.Witness.{Witness}
+use Rattle.op_answers.specs.Cases.{numbersOf, Padded}
 use Rattle.theory_trees.specs.Reach.{reached-inside}
 use Rattle.theory_trees.specs.Witness.{FirstPair, FirstPairs, noPath, onePath, FirstTargets}
 

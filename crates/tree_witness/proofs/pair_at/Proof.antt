@@ -1,13 +1,13 @@
 use native.Mathlib.Omega.{arith}
 use borrow.Author.Needs.{needs}
-use Rattle.key_pairs.specs.Pairs.{each-one}
+use Rattle.tree_pairs.specs.Pairs.{each-one}
 use Rattle.tree_witness.specs.Pairs.{pair-none, pair-some}
 use Rattle.tree_witness.proofs.pair_at.Statement.{statement}
 use Rattle.tree_witness.proofs.pair_at.Tie as tie
 use Rattle.tree_witness.proofs.pair_at.Reads as reads
 use Rattle.tree_witness.proofs.pair_at.Lts as lts
-use Rattle.shapes.proofs.keys.count.Reads as count-reads
-use Rattle.tree_nodes.proofs.tables.blank.Reads as blank-reads
+use Rattle.read_record.proofs.keys.count.Reads as count-reads
+use Rattle.tree_table.proofs.tables.blank.Reads as blank-reads
 use Rattle.tree_witness.proofs.first_pair.Reads as first-pair-reads
 use Rattle.tree_witness.proofs.put_firsts.Reads as put-firsts-reads
 

@@ -1,13 +1,13 @@
 use native.Mathlib.Omega.{arith}
 use Rattle.meaning.specs.Records.{keyIn}
 use Rattle.theory_trees.specs.Witness.{firsts-first}
-use Rattle.tree_nodes.specs.Ready.{bytes-tree}
+use Rattle.tree_table.specs.Ready.{bytes-tree}
 use Rattle.tree_witness.specs.Pairs.{targets-inside, pairs-four, padded-four}
 use Rattle.tree_witness.proofs.witness.Statement.{statement}
 use Rattle.tree_witness.proofs.witness.Tie as tie
 use Rattle.tree_witness.proofs.witness.Reads as reads
 use Rattle.tree_witness.proofs.witness.Lts as lts
-use Rattle.shapes.proofs.keys.count.Reads as count-reads
+use Rattle.read_record.proofs.keys.count.Reads as count-reads
 use Rattle.tree_witness.proofs.pair_at.Reads as pair-at-reads
 
 pair-at-requires : tie.Need-pair-at-requires

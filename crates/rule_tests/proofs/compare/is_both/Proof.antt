@@ -6,7 +6,7 @@ use Rattle.rule_tests.proofs.compare.is_both.Statement.{statement}
 use Rattle.rule_tests.proofs.compare.is_both.Tie as tie
 use Rattle.rule_tests.proofs.compare.is_both.Reads as reads
 use Rattle.rule_tests.proofs.compare.is_both.Lts as lts
-use Rattle.shapes.proofs.names.same_bytes.Reads as same-bytes-reads
+use Rattle.read_record.proofs.names.same_bytes.Reads as same-bytes-reads
 
 -- src/compare.rt:19:9
 returns : tie.Need-returns

@@ -4,9 +4,9 @@ use Rattle.rule_tests.proofs.rules.goes_on.Statement.{statement}
 use Rattle.rule_tests.proofs.rules.goes_on.Tie as tie
 use Rattle.rule_tests.proofs.rules.goes_on.Reads as reads
 use Rattle.rule_tests.proofs.rules.goes_on.Lts as lts
-use Rattle.joins.proofs.begins.Reads as begins-reads
-use Rattle.key_shapes.proofs.symbols.is_simple.Reads as is-simple-reads
-use Rattle.shapes.proofs.keys.target.Reads as target-reads
+use Rattle.rule_joins.proofs.begins.Reads as begins-reads
+use Rattle.read_key.proofs.symbols.is_simple.Reads as is-simple-reads
+use Rattle.read_record.proofs.keys.target.Reads as target-reads
 
 -- src/rules.rt:97:9
 target-requires : tie.Need-target-requires

@@ -4,8 +4,8 @@ use Rattle.rule_tests.proofs.rules.same_context.Statement.{statement}
 use Rattle.rule_tests.proofs.rules.same_context.Tie as tie
 use Rattle.rule_tests.proofs.rules.same_context.Reads as reads
 use Rattle.rule_tests.proofs.rules.same_context.Lts as lts
-use Rattle.shapes.proofs.names.same_bytes.Reads as same-bytes-reads
-use Rattle.shapes.proofs.keys.context.Reads as context-reads
+use Rattle.read_record.proofs.names.same_bytes.Reads as same-bytes-reads
+use Rattle.read_record.proofs.keys.context.Reads as context-reads
 
 -- src/rules.rt:39:9
 context-requires : tie.Need-context-requires

@@ -7,12 +7,12 @@ use Rattle.rule_tests.proofs.sets.is_among.Statement.{statement}
 use Rattle.rule_tests.proofs.sets.is_among.Tie as tie
 use Rattle.rule_tests.proofs.sets.is_among.Reads as reads
 use Rattle.rule_tests.proofs.sets.is_among.Lts as lts
-use Rattle.shapes.proofs.names.same_bytes.Reads as same-bytes-reads
-use Rattle.shapes.proofs.bodies.after_path.Reads as after-path-reads
-use Rattle.shapes.proofs.bodies.lead_path.Reads as lead-path-reads
-use Rattle.shapes.proofs.keys.count.Reads as count-reads
-use Rattle.shapes.proofs.keys.paths.Reads as paths-reads
-use Rattle.shapes.specs.Hunts.{Hunt, hunt-start, hunt-holds, hunt-hit, hunt-miss, hunt-done}
+use Rattle.read_record.proofs.names.same_bytes.Reads as same-bytes-reads
+use Rattle.read_record.proofs.bodies.after_path.Reads as after-path-reads
+use Rattle.read_record.proofs.bodies.lead_path.Reads as lead-path-reads
+use Rattle.read_record.proofs.keys.count.Reads as count-reads
+use Rattle.read_record.proofs.keys.paths.Reads as paths-reads
+use Rattle.read_record.specs.Hunts.{Hunt, hunt-start, hunt-holds, hunt-hit, hunt-miss, hunt-done}
 
 abbrev Inv-loop : tie.InvT-loop
 Inv-loop path body n rest₀ i₀ rest i = Hunt (same path) (keyIn body .paths) n i rest

@@ -4,8 +4,8 @@ use Rattle.rule_tests.proofs.sets.same_sets.Statement.{statement}
 use Rattle.rule_tests.proofs.sets.same_sets.Tie as tie
 use Rattle.rule_tests.proofs.sets.same_sets.Reads as reads
 use Rattle.rule_tests.proofs.sets.same_sets.Lts as lts
-use Rattle.shapes.proofs.names.same_bytes.Reads as same-bytes-reads
-use Rattle.shapes.proofs.keys.counted_set.Reads as counted-set-reads
+use Rattle.read_record.proofs.names.same_bytes.Reads as same-bytes-reads
+use Rattle.read_record.proofs.keys.counted_set.Reads as counted-set-reads
 
 -- src/sets.rt:33:9
 counted-set-requires : tie.Need-counted-set-requires
