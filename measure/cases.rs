@@ -25,7 +25,7 @@ impl Operation {
         }
     }
 
-    /// How many times the reference's time the product may take (the ratios of the design).
+    /// How many times the reference's time the product may take (the aims of docs/COST.md).
     pub fn aim(self) -> f64 {
         match self {
             Operation::Keep | Operation::CheckCounterexample => 3.0,
@@ -46,7 +46,7 @@ impl Operation {
     }
 }
 
-/// The case of the answer and its values, as crate bench_exports writes them: refusal number, input, record; or bytes used; or of a witness
+/// The case of the answer and its values, as crate test_exports writes them: refusal number, input, record; or bytes used; or of a witness
 /// context and targets.
 pub type Words = [usize; 4];
 

@@ -1,4 +1,4 @@
-//! The product's operations, through the static library of crate bench_exports. A slice crosses as a pointer and a length.
+//! The product's operations, through the static library of crate test_exports. A slice crosses as a pointer and a length.
 use crate::cases::{Case, Operation, Words};
 
 type Bytes = *const u8;

@@ -1,5 +1,5 @@
 #!/bin/sh
-# measure/run.sh: the product beside the second implementation, on demand. Builds the static library of crate bench_exports, links it and the
+# measure/run.sh: the product beside the second implementation, on demand. Builds the static library of crate test_exports, links it and the
 # reference into one program, and prints times, ratios and stack; then xmllint on the same bench-like segment, for scale.
 # The library is x86-64. On Arm both sides are built for x86-64 and run under Debian's emulator: a ratio means something there, a time does not.
 # All that is built or written lies in target/measure.
@@ -56,9 +56,9 @@ prepare() {
 }
 
 build() {
-    rt staticlib bench_exports >"$work/staticlib.log" 2>&1 || fail "rt staticlib bench_exports: $work/staticlib.log"
+    rt staticlib test_exports >"$work/staticlib.log" 2>&1 || fail "rt staticlib test_exports: $work/staticlib.log"
     # shellcheck disable=SC2086
-    "$rustc" --edition 2021 -C opt-level=3 $flags -L target/staticlib -l static=bench_exports -o "$work/measure" measure/main.rs ||
+    "$rustc" --edition 2021 -C opt-level=3 $flags -L target/staticlib -l static=test_exports -o "$work/measure" measure/main.rs ||
         fail "measure/main.rs does not compile"
 }
 

@@ -49,27 +49,27 @@ build differential -O
 "$work/reference_checks" || fail "the reference fails its own checks"
 "$work/differential" self "$seed" "$few" || fail "the reference contradicts itself"
 
-# 2. Paths: the program path_cases.
+# 2. Paths: the program test_paths.
 "$work/path_vectors" counts "$seed"
 "$work/path_vectors" cases "$seed" >"$work/path_cases"
 "$work/path_vectors" answers "$seed" >"$work/path_wanted"
-tests/run_program.sh path_cases <"$work/path_cases" >"$work/path_found" || fail "path_cases did not run"
+tests/run_program.sh test_paths <"$work/path_cases" >"$work/path_found" || fail "test_paths did not run"
 if ! cmp "$work/path_wanted" "$work/path_found"; then
     diff "$work/path_wanted" "$work/path_found" | head -20
-    fail "path_cases differs from the reference (line n is case n)"
+    fail "test_paths differs from the reference (line n is case n)"
 fi
-echo "path_cases: $(wc -l <"$work/path_found") cases agree"
+echo "test_paths: $(wc -l <"$work/path_found") cases agree"
 for line in 1 2; do
     "$work/path_vectors" answers "$seed" "$line" >"$work/path_wrong"
     if cmp -s "$work/path_wrong" "$work/path_found"; then
-        fail "path_cases: wrong line $line is not caught"
+        fail "test_paths: wrong line $line is not caught"
     fi
 done
-echo "path_cases: 2 wrong lines caught"
+echo "test_paths: 2 wrong lines caught"
 
 # 3. The public operations: the program replay, which answers while the cases are made and compared. An operation that it does not have yet is
 # answered `not here`, counted apart and compared with nothing; differential/counts.rs lists those that it has.
-if ! "$work/differential" cases "$seed" "$count" | tests/run_program.sh replay | tee "$work/found" |
+if ! "$work/differential" cases "$seed" "$count" | tests/run_program.sh test_replay | tee "$work/found" |
     "$work/differential" compare "$seed" "$count" "$work/difference" >"$work/compared"; then
     cat "$work/compared"
     fail "replay differs from the reference, or an outcome is too rare"
@@ -77,7 +77,7 @@ fi
 said replay <"$work/compared"
 
 # 4. The evidence that replay wrote: its own checkers and the reference's have to accept each proof and each tree.
-if ! "$work/differential" evidence "$seed" "$count" "$work/found" | tests/run_program.sh replay |
+if ! "$work/differential" evidence "$seed" "$count" "$work/found" | tests/run_program.sh test_replay |
     "$work/differential" accepted "$seed" "$count" "$work/found" "$work/difference" >"$work/accepted"; then
     cat "$work/accepted"
     fail "some evidence is not accepted, or an answer is refuted"

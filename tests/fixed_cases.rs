@@ -1,4 +1,4 @@
-//! The fixed inputs that the issues 4 to 7, 19, 20 and 22 ask for, each with the answer that 01 and 02 give, written by hand.
+//! Fixed inputs, each with the answer that documents 01 and 02 give, written by hand.
 //!
 //! fixed_cases cases            the stream that the program `replay` reads (reference/stream.rs has the format)
 //! fixed_cases compare [CASE]   reads replay's answers on standard input and holds each to its expectation; CASE, counted from 1,
@@ -6,7 +6,7 @@
 //! fixed_cases self [LINE]      holds the reference to the same expectations; LINE is one of reference::WRONG_LINES, which has to be seen
 //! fixed_cases lines            how many there are
 //!
-//! Both name each case that differs and end with the number of cases of each issue; any difference fails. `not here` differs from
+//! Both name each case that differs and end with the number of cases of each topic; any difference fails. `not here` differs from
 //! every expectation. Of `implied` the proof goes through the reference's proof check, of `not implied` the tree through its
 //! counterexample check.
 mod reference;
@@ -15,12 +15,10 @@ mod fixed;
 
 use fixed::expectations::{can_fail, changed, meets, Fixed};
 use reference::stream::{answer, write_case, Answer, OPERATIONS};
+use std::collections::BTreeMap;
 use std::io::{Read, Write};
 
-/// The numbers of the issues are below this.
-const ISSUES: usize = 23;
-
-/// Cases, differences and cases that no wrong expectation fails, by issue.
+/// Cases, differences and cases that no wrong expectation fails.
 #[derive(Default, Clone, Copy)]
 struct Count {
     cases: usize,
@@ -28,7 +26,11 @@ struct Count {
     cannot_fail: usize,
 }
 
-fn hold(fixed: &Fixed, found: Option<&Answer>, count: &mut Count) {
+/// By topic.
+type Counts = BTreeMap<&'static str, Count>;
+
+fn hold(fixed: &Fixed, found: Option<&Answer>, counts: &mut Counts) {
+    let count = counts.entry(fixed.topic).or_default();
     count.cases += 1;
     let outcome = match found {
         None => Err("no answer".to_string()),
@@ -37,21 +39,21 @@ fn hold(fixed: &Fixed, found: Option<&Answer>, count: &mut Count) {
     match (outcome, found) {
         (Err(fault), _) => {
             count.differing += 1;
-            println!("differs: issue {}, {}: {}: {}", fixed.issue, OPERATIONS[fixed.case.operation as usize], fixed.name, fault);
+            println!("differs: {}, {}: {}: {}", fixed.topic, OPERATIONS[fixed.case.operation as usize], fixed.name, fault);
         }
         (Ok(()), Some(found)) if !can_fail(fixed, found) => {
             count.cannot_fail += 1;
-            println!("cannot fail: issue {}: {}", fixed.issue, fixed.name);
+            println!("cannot fail: {}: {}", fixed.topic, fixed.name);
         }
         _ => {}
     }
 }
 
 /// Prints the counts, and says whether every case was right and able to be wrong.
-fn sum_up(counts: &[Count; ISSUES]) -> bool {
+fn sum_up(counts: &Counts) -> bool {
     let mut whole = Count::default();
-    for (issue, count) in counts.iter().enumerate().filter(|(_, count)| count.cases > 0) {
-        println!("issue {}: {} cases, {} differ", issue, count.cases, count.differing);
+    for (topic, count) in counts {
+        println!("{}: {} cases, {} differ", topic, count.cases, count.differing);
         whole.cases += count.cases;
         whole.differing += count.differing;
         whole.cannot_fail += count.cannot_fail;
@@ -61,9 +63,9 @@ fn sum_up(counts: &[Count; ISSUES]) -> bool {
 }
 
 fn hold_reference(all: &[Fixed]) -> bool {
-    let mut counts = [Count::default(); ISSUES];
+    let mut counts = Counts::new();
     for fixed in all {
-        hold(fixed, Some(&answer(&fixed.case)), &mut counts[fixed.issue as usize]);
+        hold(fixed, Some(&answer(&fixed.case)), &mut counts);
     }
     sum_up(&counts)
 }
@@ -83,11 +85,11 @@ fn next_answer(rest: &mut &[u8]) -> Option<Answer> {
 }
 
 fn compare(all: &[Fixed], stream: &[u8]) -> bool {
-    let mut counts = [Count::default(); ISSUES];
+    let mut counts = Counts::new();
     let mut rest = stream;
     for fixed in all {
         // Where the stream breaks off, no later case has an answer either.
-        hold(fixed, next_answer(&mut rest).as_ref(), &mut counts[fixed.issue as usize]);
+        hold(fixed, next_answer(&mut rest).as_ref(), &mut counts);
     }
     if !rest.is_empty() {
         println!("{} bytes stand after the last answer", rest.len());
@@ -105,7 +107,7 @@ fn change(all: &mut [Fixed], word: &str) {
     match word.parse::<usize>() {
         Ok(number) if (1..=all.len()).contains(&number) => {
             let fixed = &mut all[number - 1];
-            println!("changed: issue {}: {}", fixed.issue, fixed.name);
+            println!("changed: {}: {}", fixed.topic, fixed.name);
             fixed.wanted = changed(&fixed.wanted);
         }
         _ => usage(),

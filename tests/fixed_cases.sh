@@ -1,7 +1,7 @@
 #!/bin/sh
-# fixed_cases.sh: holds the reference, then the program replay that `rt ci` built, to answers that were written by hand from document 01:
-# the inputs that the issues 4 to 7, 19, 20 and 22 ask for. A difference fails it, and so does `not here`. Wrong expectations and wrong lines of the
-# reference must be caught: a comparison that cannot fail shows nothing. All that is built or written lies in target/tests.
+# fixed_cases.sh: holds the reference, then the program replay that `rt ci` built, to answers that were written by hand from documents 01
+# and 02. A difference fails it, and so does `not here`. Wrong expectations and wrong lines of the reference must be caught: a comparison that
+# cannot fail shows nothing. All that is built or written lies in target/tests.
 set -eu
 root=$(CDPATH= cd -- "$(dirname -- "$0")/.." && pwd)
 cd "$root"
@@ -36,7 +36,7 @@ echo "reference: $lines wrong lines caught"
 
 # 2. The program replay.
 "$work/fixed_cases" cases >"$work/fixed_stream"
-tests/run_program.sh replay <"$work/fixed_stream" >"$work/fixed_found" || fail "replay did not run"
+tests/run_program.sh test_replay <"$work/fixed_stream" >"$work/fixed_found" || fail "replay did not run"
 "$work/fixed_cases" compare <"$work/fixed_found" >"$work/fixed_compared" || {
     cat "$work/fixed_compared"
     fail "replay differs from 01"

@@ -1,12 +1,12 @@
 #!/bin/sh
-# The front as a stranger would use it: the bundled examples, other folders, bad usage, unreadable files, refused inputs, an output that
-# cannot be written. Each line says what is tried; a difference fails the run.
+# The front as a stranger would use it: the bundled examples, other folders, folders with spaces, links, bad usage, unreadable files, refused
+# inputs, an output that cannot be written, no toolchain. Each line says what is tried; a difference fails the run.
 set -eu
 root=$(CDPATH= cd -- "$(dirname -- "$0")/.." && pwd)
 work=$(mktemp -d)
 trap 'rm -rf "$work"' EXIT
 front=$root/culvertecho
-bench=$root/bench
+examples=$root/examples
 tried=0
 
 fail() {
@@ -36,90 +36,155 @@ rows=$(grep -c ' accepted ' "$work/table") || true
 grep -q '^b    not implied  132 ' "$work/table" || fail "row b is not there"
 grep -q '^m2   implied      30 ' "$work/table" || fail "row m in edition 2 is not there"
 # a wrong expectation is seen: the same examples with row a turned round
-cp -R "$root/bench" "$front" "$work"
+cp -R "$root/examples" "$front" "$work"
 mkdir "$work/target"
 ln -s "$root/target/bin" "$work/target/bin"
-sed 's/^a	I/a	N/' "$bench/rows.txt" >"$work/bench/rows.txt"
+sed 's/^a	I/a	N/' "$examples/rows.txt" >"$work/examples/rows.txt"
 if "$work/culvertecho" >"$work/table"; then fail "a wrong row is not seen"; fi
+
+# in a folder with spaces, and through links to it, one of them relative to a link
+mkdir -p "$work/a folder with spaces/target" "$work/links"
+cp -R "$root/examples" "$front" "$work/a folder with spaces"
+ln -s "$root/target/bin" "$work/a folder with spaces/target/bin"
+ln -s "$work/a folder with spaces/culvertecho" "$work/links/a link"
+ln -s "a link" "$work/links/linked"
+for started in "$work/a folder with spaces/culvertecho" "$work/links/a link" "$work/links/linked"; do
+    tried=$((tried + 1))
+    "$started" >"$work/table" || fail "$started: status $?: $(cat "$work/table")"
+    [ "$(tail -n 1 "$work/table")" = "all rows agree with document 01" ] || fail "$started: $(cat "$work/table")"
+done
+cd "$work/links"
+front=./linked
+expect 1 "not implied 132$line" decide "../a folder with spaces/examples/b.profile" "../a folder with spaces/examples/b.question" "../a tree"
+[ "$(ls)" = "a link${line}linked" ] || fail "the links' folder was changed: $(ls)"
+front=$root/culvertecho
 
 # from another folder, which it leaves as it was; names with spaces
 mkdir "$work/other folder"
 cd "$work/other folder"
-cp "$bench/a.profile" "a profile"
-expect 0 "implied 144$line" decide "a profile" "$bench/a.question" "$work/proof"
-expect 0 "accepted$line" checker proof "a profile" "$bench/a.question" "$work/proof"
+cp "$examples/a.profile" "a profile"
+expect 0 "implied 144$line" decide "a profile" "$examples/a.question" "$work/proof"
+expect 0 "accepted$line" checker proof "a profile" "$examples/a.question" "$work/proof"
 [ "$(ls)" = "a profile" ] || fail "the folder was changed: $(ls)"
 cd "$work"
 
 # OUT is overwritten by exactly the bytes used, and stays on a refusal
 head -c 1000 /dev/zero >"$work/out"
-expect 1 "not implied 132$line" decide "$bench/b.profile" "$bench/b.question" "$work/out"
+expect 1 "not implied 132$line" decide "$examples/b.profile" "$examples/b.question" "$work/out"
 [ "$(wc -c <"$work/out")" -eq 132 ] || fail "OUT has other bytes than those used"
 cp "$work/out" "$work/before"
-expect 2 "refused 1 2 0$line" decide "$bench/b.profile" "$work/no_such_file" "$work/out"
+: >"$work/empty"
+expect 2 "refused 1 2 0$line" decide "$examples/b.profile" "$work/empty" "$work/out"
 cmp -s "$work/before" "$work/out" || fail "a refusal changed OUT"
-expect 2 "refused 1 2 0$line" decide "$bench/b.profile" "$work/no_such_file" "$work/not_made"
+expect 2 "refused 1 2 0$line" decide "$examples/b.profile" "$work/empty" "$work/not_made"
 [ ! -e "$work/not_made" ] || fail "a refusal made OUT"
 
 # every answer's status
-expect 1 "broken 0 4 9 6 11$line" profile keep "$bench/b.profile" "$bench/b.question" "$work/out"
-expect 0 "kept$line" profile keep "$bench/b.profile" "$bench/a.question" "$work/out"
-expect 0 "accepted 0 4 9 6 11$line" checker tree "$bench/b.profile" "$bench/b.question" "$work/out"
-expect 2 "refused 12 1 0 witness 0 4 9 6 11$line" checker tree "$bench/a.profile" "$bench/b.question" "$work/out"
-expect 2 "refused 13 3 0$line" checker tree "$bench/b.profile" "$bench/a.question" "$work/out"
-expect 2 "refused 10 3 8$line" checker proof "$bench/a.profile" "$bench/b.question" "$work/proof"
-expect 2 "refused 10 3 0$line" checker proof "$bench/a.profile" "$bench/a.question" "$work/no_such_file"
+expect 1 "broken 0 4 9 6 11$line" profile keep "$examples/b.profile" "$examples/b.question" "$work/out"
+expect 0 "kept$line" profile keep "$examples/b.profile" "$examples/a.question" "$work/out"
+expect 0 "accepted 0 4 9 6 11$line" checker tree "$examples/b.profile" "$examples/b.question" "$work/out"
+expect 2 "refused 12 1 0 witness 0 4 9 6 11$line" checker tree "$examples/a.profile" "$examples/b.question" "$work/out"
+expect 2 "refused 13 3 0$line" checker tree "$examples/b.profile" "$examples/a.question" "$work/out"
+expect 2 "refused 10 3 8$line" checker proof "$examples/a.profile" "$examples/b.question" "$work/proof"
+expect 2 "refused 10 3 0$line" checker proof "$examples/a.profile" "$examples/a.question" "$work/empty"
 # m in both editions: the tree of edition 1 has an attribute twice, the proof of edition 2 uses rule 10
-expect 1 "not implied 66$line" decide "$bench/m.profile" "$bench/m.question" "$work/m"
-expect 0 "accepted 2 4 5 4 5$line" checker tree "$bench/m.profile" "$bench/m.question" "$work/m"
-expect 2 "refused 16 3 5$line" checker tree "$bench/m2.profile" "$bench/m2.question" "$work/m"
-expect 0 "implied 30$line" decide "$bench/m2.profile" "$bench/m2.question" "$work/m2"
-expect 0 "accepted$line" checker proof "$bench/m2.profile" "$bench/m2.question" "$work/m2"
-expect 2 "refused 9 3 0$line" checker proof "$bench/m.profile" "$bench/m.question" "$work/m2"
-expect 2 "refused 8 3 0$line" checker tree "$bench/a.profile" "$bench/a.question" "$work/no_such_file"
-expect 0 "rewritten 69$line" profile rewrite "$bench/b.profile" "$work/rewritten"
-cmp -s "$bench/b.profile" "$work/rewritten" || fail "rewriting changed the profile"
+expect 1 "not implied 66$line" decide "$examples/m.profile" "$examples/m.question" "$work/m"
+expect 0 "accepted 2 4 5 4 5$line" checker tree "$examples/m.profile" "$examples/m.question" "$work/m"
+expect 2 "refused 16 3 5$line" checker tree "$examples/m2.profile" "$examples/m2.question" "$work/m"
+expect 0 "implied 30$line" decide "$examples/m2.profile" "$examples/m2.question" "$work/m2"
+expect 0 "accepted$line" checker proof "$examples/m2.profile" "$examples/m2.question" "$work/m2"
+expect 2 "refused 9 3 0$line" checker proof "$examples/m.profile" "$examples/m.question" "$work/m2"
+expect 2 "refused 8 3 0$line" checker tree "$examples/a.profile" "$examples/a.question" "$work/empty"
+expect 0 "rewritten 69$line" profile rewrite "$examples/b.profile" "$work/rewritten"
+cmp -s "$examples/b.profile" "$work/rewritten" || fail "rewriting changed the profile"
 printf '\003\004' >"$work/narrow"
 printf '\000\004' >"$work/wide"
-expect 0 "included$line" profile include "$bench/b.profile" "$work/narrow" "$work/wide"
-expect 1 "not included$line" profile include "$bench/b.profile" "$work/wide" "$work/narrow"
-expect 0 "" profile body "$bench/b.profile" 7
-expect 0 "" profile body "$bench/b.profile" 99999999999999999999999999
-expect 0 "" profile body "$bench/b.question" 0
-"$front" profile body "$bench/b.profile" 6 >"$work/body"
+expect 0 "included$line" profile include "$examples/b.profile" "$work/narrow" "$work/wide"
+expect 1 "not included$line" profile include "$examples/b.profile" "$work/wide" "$work/narrow"
+expect 0 "" profile body "$examples/b.profile" 7
+expect 0 "" profile body "$examples/b.profile" 99999999999999999999999999
+expect 0 "" profile body "$examples/b.question" 0
+"$front" profile body "$examples/b.profile" 6 >"$work/body"
 printf '\001\003\001\004\001\001\007' >"$work/wanted"
 cmp -s "$work/wanted" "$work/body" || fail "the body of record 6 is not its bytes"
 
-# an unreadable file counts as empty: no labels, so the question's symbol 3 is unknown
-expect 2 "refused 4 2 0$line" decide "$work/no_such_file" "$bench/b.question" "$work/not_made"
-expect 4 "unwritable$line" decide "$bench/a.profile" "$bench/a.question" "$work/no/such/folder"
-expect 4 "unwritable$line" profile rewrite "$bench/a.profile" "$work/no/such/folder"
+# an empty file is empty: no labels, so the question's symbol 3 is unknown
+expect 2 "refused 4 2 0$line" decide "$work/empty" "$examples/b.question" "$work/not_made"
+expect 0 "included$line" profile include "$examples/b.profile" "$work/empty" "$work/empty"
+# an unreadable file is named, whichever argument it is, and nothing is made or changed: a missing file, a folder, no name at all
+for name in "$work/no such file" "$work/other folder" ""; do
+    said="unreadable $name$line"
+    expect 5 "$said" decide "$name" "$examples/b.question" "$work/not_made"
+    expect 5 "$said" decide "$examples/b.profile" "$name" "$work/not_made"
+    expect 5 "$said" checker proof "$name" "$examples/a.question" "$work/proof"
+    expect 5 "$said" checker proof "$examples/a.profile" "$name" "$work/proof"
+    expect 5 "$said" checker proof "$examples/a.profile" "$examples/a.question" "$name"
+    expect 5 "$said" checker tree "$name" "$examples/b.question" "$work/out"
+    expect 5 "$said" checker tree "$examples/b.profile" "$name" "$work/out"
+    expect 5 "$said" checker tree "$examples/b.profile" "$examples/b.question" "$name"
+    expect 5 "$said" profile rewrite "$name" "$work/not_made"
+    expect 5 "$said" profile body "$name" 6
+    expect 5 "$said" profile include "$name" "$work/narrow" "$work/wide"
+    expect 5 "$said" profile include "$examples/b.profile" "$name" "$work/wide"
+    expect 5 "$said" profile include "$examples/b.profile" "$work/narrow" "$name"
+    expect 5 "$said" profile keep "$name" "$examples/b.question" "$work/out"
+    expect 5 "$said" profile keep "$examples/b.profile" "$name" "$work/out"
+    expect 5 "$said" profile keep "$examples/b.profile" "$examples/b.question" "$name"
+done
+# two of them: the first is named
+expect 5 "unreadable $work/first$line" decide "$work/first" "$work/second" "$work/not_made"
+# a file that may not be read; root may read all
+cp "$examples/b.profile" "$work/locked"
+chmod 000 "$work/locked"
+[ -r "$work/locked" ] || expect 5 "unreadable $work/locked$line" decide "$work/locked" "$examples/b.question" "$work/not_made"
+[ ! -e "$work/not_made" ] || fail "an unreadable file made OUT"
+expect 4 "unwritable$line" decide "$examples/a.profile" "$examples/a.question" "$work/no/such/folder"
+expect 4 "unwritable$line" profile rewrite "$examples/a.profile" "$work/no/such/folder"
 
 # bad usage
 usage="usage: decide PROFILE QUESTION OUT$line"
 expect 3 "$usage" decide
-expect 3 "$usage" decide "$bench/a.profile" "$bench/a.question"
-expect 3 "$usage" decide "$bench/a.profile" "$bench/a.question" "$work/not_made" more
+expect 3 "$usage" decide "$examples/a.profile" "$examples/a.question"
+expect 3 "$usage" decide "$examples/a.profile" "$examples/a.question" "$work/not_made" more
 usage="usage: checker proof PROFILE QUESTION PROOF | checker tree PROFILE QUESTION TREE$line"
 expect 3 "$usage" checker
 expect 3 "$usage" checker neither a b c
 usage="usage: profile rewrite PROFILE OUT | profile body PROFILE N | profile include PROFILE PATH PATH | profile keep PROFILE QUESTION TREE$line"
 expect 3 "$usage" profile
-expect 3 "$usage" profile body "$bench/a.profile" six
-expect 3 "$usage" profile body "$bench/a.profile" ""
-expect 3 "$usage" profile body "$bench/a.profile" -1
-expect 3 "$usage" profile keep "$bench/a.profile"
+expect 3 "$usage" profile body "$examples/a.profile" six
+expect 3 "$usage" profile body "$examples/a.profile" ""
+expect 3 "$usage" profile body "$examples/a.profile" -1
+expect 3 "$usage" profile keep "$examples/a.profile"
 [ ! -e "$work/not_made" ] || fail "a wrong call made OUT"
 found=0
 "$front" no_such_command >"$work/found" || found=$?
 [ "$found" -eq 3 ] || fail "an unknown command: status $found, not 3"
 grep -q '^usage: culvertecho' "$work/found" || fail "an unknown command prints no usage"
+# usage that was asked for
+cp "$work/found" "$work/usage"
+for word in --help -h help; do expect 0 "$(cat "$work/usage")$line" "$word"; done
+
+# no programs, and a toolchain that is missing or builds nothing: on the path are the tools that the front uses and no others
+mkdir "$work/bare" "$work/tools"
+cp -R "$examples" "$root/culvertecho" "$work/bare"
+for tool in cat head tr mktemp rm uname readlink dirname; do ln -s "$(command -v "$tool")" "$work/tools/$tool"; done
+printf '#!/bin/sh\nPATH=%s exec %s/culvertecho "$@"\n' "$work/tools" "$work/bare" >"$work/start"
+printf '#!/bin/sh\nexit 1\n' >"$work/no_rt"
+chmod 755 "$work/start" "$work/no_rt"
+front=$work/start
+expect 6 "" decide "$examples/b.profile" "$examples/b.question" "$work/not_made"
+grep -q 'command rt is not on the path$' "$work/errors" || fail "without a toolchain: $(cat "$work/errors")"
+expect 6 ""
+mv "$work/no_rt" "$work/tools/rt"
+expect 6 "" decide "$examples/b.profile" "$examples/b.question" "$work/not_made"
+grep -q 'programs could not be built$' "$work/errors" || fail "where nothing can be built: $(cat "$work/errors")"
+front=$root/culvertecho
 
 # the listing: example b with its profile.key, without one, and refused inputs
 mkdir "$work/listing"
 cd "$work/listing"
 list() { "$front" list <"$1" >"$work/found" || return $?; }
-cp "$bench/b.profile" profile.key
+cp "$examples/b.profile" profile.key
 list "$work/before" || fail "the listing of b: status $?"
 cmp -s "$root/crates/list/stdout" "$work/found" || fail "the listing of b differs"
 # 4,096 nodes, five blocks: a root and 4,095 nodes under it, whose records are all the same bytes
@@ -150,6 +215,8 @@ refused() {
     [ "$found" -eq 2 ] && [ "$(cat "$work/found")" = "refused $2" ] || fail "list $1: $found $(head -c 100 "$work/found"), not refused $2"
 }
 refused /dev/null "8 3 0"
+# of the listing alone 01 says that an unreadable file counts as empty: here the tree, below the profile
+refused "$work" "8 3 0"
 head -c 131 "$work/before" >"$work/cut"
 refused "$work/cut" "1 3 11"
 head -c 36865 /dev/zero >"$work/large"
@@ -160,6 +227,9 @@ cat "$root/crates/list/stdin" "$work/before" >"$work/mixed"
 refused "$work/mixed" "2 3 12"
 rm profile.key
 refused "$work/before" "8 3 2"
+mkdir profile.key
+refused "$work/before" "8 3 2"
+rmdir profile.key
 printf '\005\000\001\000\002' >profile.key
 refused "$work/before" "1 1 0"
 head -c 16385 /dev/zero >profile.key

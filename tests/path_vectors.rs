@@ -1,6 +1,6 @@
-//! Cases for `paths::member` and `paths::included`, and the answers that document 01 gives.
+//! Cases for `path_words::member` and `path_words::included`, and the answers that document 01 gives.
 //!
-//! path_vectors cases  SEED          the stream that the program `path_cases` reads
+//! path_vectors cases  SEED          the stream that the program `test_paths` reads
 //! path_vectors answers SEED [LINE]  the lines that it must print; LINE makes the reference's wrong
 //!                                   line of that number take the place of the right one
 //! path_vectors counts SEED          how many cases of each sort there are, with the answers' counts

@@ -1,5 +1,5 @@
 #!/bin/sh
-# tree_cost.sh: the tree test on trees that a careless one would never finish (DESIGN, section 4), through the programs that `rt ci` built. The
+# tree_cost.sh: the tree test on trees that a careless one would never finish, through the programs that `rt ci` built. The
 # verdicts are held to those derived by hand, the times to nothing but a limit against hanging. All that is built or written lies in
 # target/tests.
 set -eu

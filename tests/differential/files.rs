@@ -105,5 +105,5 @@ fn commands(folder: &str, case: &Case) -> String {
         _ => format!("tests/run_program.sh {}", program),
     };
     let note = if case.room as usize == ANSWER_BYTES { "" } else { "   # lends another room than this case" };
-    format!("{}{}\ntests/run_program.sh replay <{}/frame\n", run, note, folder)
+    format!("{}{}\ntests/run_program.sh test_replay <{}/frame\n", run, note, folder)
 }

@@ -1,4 +1,4 @@
-//! Issue 4: the body of record n, and inclusion of two bare paths.
+//! Inputs: the body of record n, and inclusion of two bare paths.
 use super::expectations::Cases;
 use super::notation::*;
 

@@ -1,4 +1,4 @@
-//! Issue 7: several keys that are all needed, steps that start inside a branch, 64 keys, and paths of 8 symbols everywhere.
+//! Decisions: several keys that are all needed, steps that start inside a branch, 64 keys, and paths of 8 symbols everywhere.
 use super::decisions::{implied, not_implied};
 use super::expectations::Cases;
 use super::notation::*;

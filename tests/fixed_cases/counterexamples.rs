@@ -1,4 +1,4 @@
-//! Issue 6: the counterexample check. 12 with the lowest broken key's number, and since request 9 its first witness, before 13.
+//! Checks: the counterexample check. 12 with the lowest broken key's number, and since request 9 its first witness, before 13.
 use super::drawn;
 use super::expectations::Cases;
 use super::notation::*;

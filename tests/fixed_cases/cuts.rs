@@ -1,4 +1,4 @@
-//! Issue 4: sound inputs cut at every byte. The rule is the same for each: a cut at a record's end leaves whole records, any other
+//! Inputs: sound inputs cut at every byte. The rule is the same for each: a cut at a record's end leaves whole records, any other
 //! cut leaves a last record that is shorter than 4 or runs past the end, which is 1 at that record.
 use super::bodies_and_paths::SMALL;
 use super::expectations::Cases;

@@ -1,4 +1,4 @@
-//! Issue 7: decided questions. `implied` has its proof checked, `not implied` its tree, and where the tree is drawn by hand here it
+//! Decisions: decided questions. `implied` has its proof checked, `not implied` its tree, and where the tree is drawn by hand here it
 //! is compared byte for byte.
 use super::drawn;
 use super::expectations::Cases;

@@ -1,4 +1,4 @@
-//! Issue 20 (02, request 6): doubled keys. "A profile with two equal keys is to be refused at the later one": 15, "after 6 within the
+//! 02, request 6: doubled keys. "A profile with two equal keys is to be refused at the later one": 15, "after 6 within the
 //! record and before 8". Six labels stand before the keys, and in edition 2 one record more.
 use super::expectations::Cases;
 use super::notation::*;

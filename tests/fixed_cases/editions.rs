@@ -1,4 +1,4 @@
-//! Issue 19 (02, request 5): profiles of edition 2. The edition's record, repeated attributes, rule 10, and questions decided; where the
+//! 02, request 5: profiles of edition 2. The edition's record, repeated attributes, rule 10, and questions decided; where the
 //! edition makes a difference, and where it makes none, the same input stands in edition 1 beside it.
 use super::drawn;
 use super::expectations::Cases;

@@ -16,25 +16,25 @@ pub enum Wanted {
 }
 
 pub struct Fixed {
-    pub issue: u8,
+    pub topic: &'static str,
     pub name: String,
     pub case: Case,
     pub wanted: Wanted,
 }
 
-/// The cases of one issue.
+/// The cases of one topic.
 pub struct Cases {
-    issue: u8,
+    topic: &'static str,
     pub all: Vec<Fixed>,
 }
 
 impl Cases {
-    pub fn of(issue: u8) -> Cases {
-        Cases { issue, all: Vec::new() }
+    pub fn of(topic: &'static str) -> Cases {
+        Cases { topic, all: Vec::new() }
     }
 
     fn add(&mut self, name: &str, case: Case, wanted: Wanted) {
-        self.all.push(Fixed { issue: self.issue, name: name.to_string(), case, wanted });
+        self.all.push(Fixed { topic: self.topic, name: name.to_string(), case, wanted });
     }
 
     /// A case and the line that it wants: `refused 4 1 3`, `kept`, `implied`, `not implied 132`, .. `broken` and an accepted tree may stand

@@ -1,4 +1,4 @@
-//! Issue 4: proof lines as input 3. Each refusal number that a line can get before it is asked whether it follows; the limits.
+//! Inputs: proof lines as input 3. Each refusal number that a line can get before it is asked whether it follows; the limits.
 use super::expectations::Cases;
 use super::notation::*;
 

@@ -1,4 +1,4 @@
-//! Issue 5: blocks of the listing. "First line: the word nodes and their number. Then number, parent, label, value; `-` for no
+//! Trees: blocks of the listing. "First line: the word nodes and their number. Then number, parent, label, value; `-` for no
 //! parent or no value. Block k is lines 1,024k to 1,024k + 1,023, past the end 0 bytes".
 use super::expectations::Cases;
 use super::drawn;

@@ -1,4 +1,4 @@
-//! The fixed cases, by the issue that asks for them.
+//! The fixed cases, by what they are about.
 pub mod expectations;
 pub mod notation;
 
@@ -25,17 +25,17 @@ use expectations::{Cases, Fixed};
 /// All cases; each name is used once, so that a difference names its case.
 pub fn all() -> Vec<Fixed> {
     let mut found = Vec::new();
-    let issues: [(u8, &[fn(&mut Cases)]); 7] = [
-        (4, &[profiles::put, order::put, nodes::put, lines::put, bodies_and_paths::put, cuts::put]),
-        (5, &[trees::put, listings::put]),
-        (6, &[rules::put, proofs::put, counterexamples::put]),
-        (7, &[decisions::put, chains::put]),
-        (19, &[editions::put]),
-        (20, &[doubled::put]),
-        (22, &[witnesses::put]),
+    let topics: [(&'static str, &[fn(&mut Cases)]); 7] = [
+        ("inputs", &[profiles::put, order::put, nodes::put, lines::put, bodies_and_paths::put, cuts::put]),
+        ("trees", &[trees::put, listings::put]),
+        ("checks", &[rules::put, proofs::put, counterexamples::put]),
+        ("decisions", &[decisions::put, chains::put]),
+        ("editions", &[editions::put]),
+        ("doubled keys", &[doubled::put]),
+        ("witnesses", &[witnesses::put]),
     ];
-    for (issue, parts) in issues.iter() {
-        let mut cases = Cases::of(*issue);
+    for (topic, parts) in topics.iter() {
+        let mut cases = Cases::of(topic);
         parts.iter().for_each(|put| put(&mut cases));
         found.extend(cases.all);
     }

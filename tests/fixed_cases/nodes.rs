@@ -1,4 +1,4 @@
-//! Issue 4: trees as input 3. Each refusal number that a tree can get, with its record; the limits. Every case of a tree of one
+//! Inputs: trees as input 3. Each refusal number that a tree can get, with its record; the limits. Every case of a tree of one
 //! kind runs once for each kind of node records; then files that mix them (02, request 11).
 use super::expectations::Cases;
 use super::notation::*;

@@ -1,4 +1,4 @@
-//! Issue 4: questions, and the order of refusals: "14; then profile, question, tree or proof. In each input its size, then records
+//! Inputs: questions, and the order of refusals: "14; then profile, question, tree or proof. In each input its size, then records
 //! from the front; in one record 7, then 1, 2, 3, 4, 5, 6, 8, 9."
 use super::expectations::Cases;
 use super::notation::*;

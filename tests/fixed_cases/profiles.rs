@@ -1,4 +1,4 @@
-//! Issue 4: profiles, read by rewriting. Each refusal number that a profile can get, with its record; the limits.
+//! Inputs: profiles, read by rewriting. Each refusal number that a profile can get, with its record; the limits.
 use super::expectations::Cases;
 use super::notation::*;
 

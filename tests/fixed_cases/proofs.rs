@@ -1,4 +1,4 @@
-//! Issue 6: whole proofs: 01's rows, 001's examples, errors that look right, premises, and the order of 9 and 10.
+//! Checks: whole proofs: 01's rows, 001's examples, errors that look right, premises, and the order of 9 and 10.
 use super::expectations::Cases;
 use super::notation::*;
 use super::rules::check;

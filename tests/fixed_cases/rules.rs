@@ -1,4 +1,4 @@
-//! Issue 6: for each rule of 01, lines that follow and lines that differ in one symbol, path or premise and do not.
+//! Checks: for each rule of 01, lines that follow and lines that differ in one symbol, path or premise and do not.
 use super::expectations::Cases;
 use super::notation::*;
 

@@ -1,4 +1,4 @@
-//! Issue 5: value equality and keys kept, on small tables.
+//! Trees: value equality and keys kept, on small tables.
 use super::expectations::Cases;
 use super::notation::*;
 

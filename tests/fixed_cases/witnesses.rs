@@ -1,4 +1,4 @@
-//! Issue 22 (02, request 9): the first witness. "Of all such witnesses it is the first by context number, then smaller target number, then
+//! 02, request 9: the first witness. "Of all such witnesses it is the first by context number, then smaller target number, then
 //! larger, then each pair by its two numbers in key-path order." In a pair the first number lies under the smaller target.
 use super::expectations::Cases;
 use super::notation::*;

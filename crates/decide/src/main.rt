@@ -1,49 +1,43 @@
-// `decide PROFILE QUESTION OUT`: prints `implied` or `not implied` with the bytes of evidence that it writes to OUT, a proof or a tree, or `refused` with
-// number, input and record. Thin over `culvertecho::decide`; an unreadable file counts as empty.
-use answers::Deciding;
-use culvertecho::decide;
-use files::print;
-use files::print_count;
-use files::print_refusal;
-use files::read_argument;
-use files::write_argument;
-
-// Of a file is read one byte more than its limit, so that it is refused by size; of a question two records of the greatest length and a byte.
-const PROFILE_READ: usize = 16385;
-
-const QUESTION_READ: usize = 131071;
-
-const ANSWER_ROOM: usize = 65536;
+// `decide PROFILE QUESTION OUT`: prints `implied` or `not implied` with the bytes of evidence that it writes to OUT, a proof or a tree; or
+// `refused` with number, input and record; or `unreadable` with the name of a file. Thin over `op_decide::decide`.
+use op_answers::Deciding;
+use op_decide::decide;
+use program_files::ANSWER_ROOM;
+use program_files::PROFILE_READ;
+use program_files::QUESTION_READ;
+use program_files::part_read;
+use program_files::print;
+use program_files::print_refusal;
+use program_files::read_argument;
+use program_files::unread;
+use program_files::write_used;
 
 // The program's own name and the three files
 const WORDS: usize = 4;
 
-// "OUT is made or overwritten with exactly the bytes used, only after the answer is known".
-fn write_evidence(word: &[u8], evidence: &[u8]) {
-    if write_argument(3, evidence) {
-        print_count(word, evidence.len());
-        return;
-    }
-    print(b"unwritable\n");
-}
-
-// The first bytes of the answer, which are there.
-fn write_used(word: &[u8], answer: &[u8], used: usize) {
-    if used <= answer.len() {
-        write_evidence(word, &answer[..used]);
-    }
-}
+// OUT's place among them
+const OUT: usize = 3;
 
 fn decide_files() {
     let mut profile = [0u8; PROFILE_READ];
     let mut question = [0u8; QUESTION_READ];
     let mut answer = [0u8; ANSWER_ROOM];
-    let n = read_argument(1, &mut profile);
-    let m = read_argument(2, &mut question);
-    let decided = decide(&profile[..n], &question[..m], &mut answer);
+    let first = read_argument(1, &mut profile);
+    if unread(first) {
+        return;
+    }
+    let second = read_argument(2, &mut question);
+    if unread(second) {
+        return;
+    }
+    let decided = decide(
+        part_read(first, &profile),
+        part_read(second, &question),
+        &mut answer,
+    );
     match decided {
-        Deciding::Implied(used) => write_used(b"implied", &answer, used),
-        Deciding::NotImplied(used) => write_used(b"not implied", &answer, used),
+        Deciding::Implied(used) => write_used(OUT, b"implied", &answer, used),
+        Deciding::NotImplied(used) => write_used(OUT, b"not implied", &answer, used),
         Deciding::Refused(r) => print_refusal(r.number, r.input, r.place),
     }
 }

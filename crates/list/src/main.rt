@@ -1,18 +1,14 @@
 // The listing program of document 01: reads a tree file on standard input, with labels taken as in the profile that it opens by the fixed name
 // `profile.key`, and prints all blocks of its listing; on a refusal only `refused` with number, input and record.
-use answers::Listing;
-use files::print;
-use files::print_refusal;
-use files::read_named;
 use libc::STDIN_FILENO;
-use listings::list_block;
-
-// One byte more than an input's size, so that a larger one is refused.
-const PROFILE_ROOM: usize = 16385;
-
-const TREE_ROOM: usize = 45057;
-
-const ANSWER_ROOM: usize = 65536;
+use op_answers::Listing;
+use op_list::list_block;
+use program_files::ANSWER_ROOM;
+use program_files::PROFILE_READ;
+use program_files::TREE_READ;
+use program_files::print;
+use program_files::print_refusal;
+use program_files::read_or_empty;
 
 // The first line and 4,096 nodes are lines of five blocks.
 const BLOCKS: usize = 5;
@@ -47,9 +43,9 @@ fn print_blocks(profile: &[u8], tree: &[u8]) {
 }
 
 fn main() {
-    let mut profile = [0u8; PROFILE_ROOM];
-    let labels = read_named(b"profile.key", &mut profile);
-    let mut tree = [0u8; TREE_ROOM];
+    let mut profile = [0u8; PROFILE_READ];
+    let labels = read_or_empty(b"profile.key", &mut profile);
+    let mut tree = [0u8; TREE_READ];
     let nodes = io::read_full(STDIN_FILENO, &mut tree);
     print_blocks(&profile[..labels], &tree[..nodes]);
 }

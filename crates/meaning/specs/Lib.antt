@@ -1,4 +1,4 @@
--- Document 01 as definitions, in its order. No lemma stands here: laws and theorems are in the crates theory_*.
+-- Document 01 as definitions, in its order, then 02's operations. No lemma stands here: laws and theorems are in the crates theory_*.
 pub mod Limits
 pub mod Lists
 pub mod Paths

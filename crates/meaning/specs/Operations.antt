@@ -2,17 +2,17 @@
 use Prim.Native.Nat.{ℕ, zero, suc, _+_, _-_, _*_, _≤_, _<_}
 use mathlib.Core.Path.{_≡_}
 use mathlib.Core.Logic.{_⊎_}
-use mathlib.Core.Bool.{Bool}
-use mathlib.Core.List.{List, [], _∷_, _++_}
+use mathlib.Core.Bool.{Bool, cond}
+use mathlib.Core.List.{List, [], _∷_, _++_, map, flatten}
 use mathlib.Core.Option.{some}
 use lib.ListN.{length, take, drop, getElem?}
-use Rattle.meaning.specs.Limits.{proofBytes}
+use Rattle.meaning.specs.Limits.{proofBytes, editionKind, secondEdition}
 use Rattle.meaning.specs.Lists.{Each}
 use Rattle.meaning.specs.Paths.{Label, classOf, singles, Included}
 use Rattle.meaning.specs.Trees.{Table, tableOf}
 use Rattle.meaning.specs.Keys.{Key, Keeps, FirstWitness, Implied}
 use Rattle.meaning.specs.Rules.{Line, FollowsAt, FollowsBelow, EndsWith}
-use Rattle.meaning.specs.Records.{recordLength, recordBody}
+use Rattle.meaning.specs.Records.{recordLength, recordBody, recordBytes, labelBytes, keyBytes}
 use Rattle.meaning.specs.Refusals
 use Rattle.meaning.specs.Refusals.{Refusal, Profile, Walked, firstRefusal, profileIn, profileRefusal, questionIn, questionRefusal, nodesIn, treeRefusal, proofWalked, pathRefusal, answerRefusal}
 use Rattle.meaning.specs.Pattern.{IsU, writtenTree}
@@ -74,10 +74,21 @@ secondIn profile = Refusals.hasEdition profile
 unfoldable pub singleIn : List ℕ → ℕ → Bool
 singleIn profile = singles (secondIn profile) (classOf (labelsIn profile))
 
--- "read and rewrite a profile"; "profiles read and written back are the same bytes"
+-- "A profile is labels, numbers ascending, then keys.": its bytes. "A profile of edition 2 begins with a record of kind 6, one byte, 2"
+unfoldable pub entriesWritten : Profile → List ℕ
+entriesWritten p = flatten (map labelBytes (p .labels)) ++ flatten (map keyBytes (p .keys))
+
+unfoldable pub editionWritten : Bool → List ℕ
+editionWritten second = cond second (recordBytes editionKind (secondEdition ∷ [])) []
+
+unfoldable pub profileWritten : Bool → Profile → List ℕ
+profileWritten second p = editionWritten second ++ entriesWritten p
+
+-- "read and rewrite a profile": what was read of it, written. ("Profiles read and written back are the same bytes" is a theorem about it.)
 unfoldable pub Rewrites : (profile buffer : List ℕ) → Answer → Type 0
 Rewrites profile buffer =
-    Unless (answerRefusal buffer ∷ profileRefusal profile ∷ []) buffer (λ answer. answer ≡ filled rewritten profile buffer)
+    Unless (answerRefusal buffer ∷ profileRefusal profile ∷ []) buffer
+    (λ answer. answer ≡ filled rewritten (profileWritten (secondIn profile) (profileIn profile)) buffer)
 
 -- "give the body of record n of a checked profile"; "if that refuses, or there is no record n, it answers the empty part alone"
 unfoldable pub recordsFrom : ℕ → List ℕ → List ℕ

@@ -1,27 +1,22 @@
-// The program `profile`: rewrite a profile, give the body of a record, test inclusion of two paths, test whether a tree keeps a key. Thin over the public operations: it reads files,
-// calls one operation and prints its answer.
-use answers::Inclusion;
-use answers::Rewriting;
-use files::Number;
-use files::is_word;
-use files::number_argument;
-use files::print;
-use files::print_count;
-use files::print_refusal;
-use files::read_argument;
-use files::write_argument;
-use witness_lines::print_keeping;
-
-// Of a file is read one byte more than its size limit, so that it is refused by size, or by 4.
-const PROFILE_ROOM: usize = 16385;
-
-const PATH_ROOM: usize = 33;
-
-const ANSWER_ROOM: usize = 65536;
-
-const QUESTION_ROOM: usize = 131071;
-
-const TREE_ROOM: usize = 45057;
+// The program `profile`: rewrite a profile, give the body of a record, test inclusion of two paths, test whether a tree keeps a key. Thin over
+// the public operations: it reads files, calls one operation and prints its answer; where a file cannot be read, `unreadable` and its name.
+use op_answers::Inclusion;
+use op_answers::Rewriting;
+use program_files::ANSWER_ROOM;
+use program_files::Number;
+use program_files::PATH_READ;
+use program_files::PROFILE_READ;
+use program_files::QUESTION_READ;
+use program_files::TREE_READ;
+use program_files::is_word;
+use program_files::number_argument;
+use program_files::part_read;
+use program_files::print;
+use program_files::print_refusal;
+use program_files::read_argument;
+use program_files::unread;
+use program_files::write_used;
+use program_witness::print_keeping;
 
 fn usage() {
     print(
@@ -30,41 +25,48 @@ fn usage() {
 }
 
 fn rewrite() {
-    let mut profile = [0u8; PROFILE_ROOM];
-    let length = read_argument(2, &mut profile);
+    let mut profile = [0u8; PROFILE_READ];
+    let first = read_argument(2, &mut profile);
+    if unread(first) {
+        return;
+    }
     let mut answer = [0u8; ANSWER_ROOM];
-    let rewritten = checks::profiles::rewrite(&profile[..length], &mut answer);
+    let rewritten = op_profile::profiles::rewrite(part_read(first, &profile), &mut answer);
     match rewritten {
         Rewriting::Refused(r) => print_refusal(r.number, r.input, r.place),
-        Rewriting::Rewritten(used) => {
-            if used <= ANSWER_ROOM {
-                if write_argument(3, &answer[..used]) {
-                    print_count(b"rewritten", used);
-                } else {
-                    print(b"unwritable\n");
-                }
-            }
-        }
+        Rewriting::Rewritten(used) => write_used(3, b"rewritten", &answer, used),
     }
 }
 
 fn body(n: usize) {
-    let mut profile = [0u8; PROFILE_ROOM];
-    let length = read_argument(2, &mut profile);
-    print(checks::profiles::body(&profile[..length], n));
+    let mut profile = [0u8; PROFILE_READ];
+    let first = read_argument(2, &mut profile);
+    if unread(first) {
+        return;
+    }
+    print(op_profile::profiles::body(part_read(first, &profile), n));
 }
 
 fn include() {
-    let mut profile = [0u8; PROFILE_ROOM];
-    let length = read_argument(2, &mut profile);
-    let mut path = [0u8; PATH_ROOM];
-    let symbols = read_argument(3, &mut path);
-    let mut other = [0u8; PATH_ROOM];
-    let others = read_argument(4, &mut other);
-    let included = checks::inclusions::include(
-        &profile[..length],
-        &path[..symbols],
-        &other[..others],
+    let mut profile = [0u8; PROFILE_READ];
+    let first = read_argument(2, &mut profile);
+    if unread(first) {
+        return;
+    }
+    let mut path = [0u8; PATH_READ];
+    let second = read_argument(3, &mut path);
+    if unread(second) {
+        return;
+    }
+    let mut other = [0u8; PATH_READ];
+    let third = read_argument(4, &mut other);
+    if unread(third) {
+        return;
+    }
+    let included = op_profile::inclusions::include(
+        part_read(first, &profile),
+        part_read(second, &path),
+        part_read(third, &other),
     );
     match included {
         Inclusion::Included => print(b"included\n"),
@@ -74,13 +76,26 @@ fn include() {
 }
 
 fn keep() {
-    let mut profile = [0u8; PROFILE_ROOM];
-    let length = read_argument(2, &mut profile);
-    let mut question = [0u8; QUESTION_ROOM];
-    let asked = read_argument(3, &mut question);
-    let mut tree = [0u8; TREE_ROOM];
-    let nodes = read_argument(4, &mut tree);
-    print_keeping(tree_checks::keep(&profile[..length], &question[..asked], &tree[..nodes]));
+    let mut profile = [0u8; PROFILE_READ];
+    let first = read_argument(2, &mut profile);
+    if unread(first) {
+        return;
+    }
+    let mut question = [0u8; QUESTION_READ];
+    let second = read_argument(3, &mut question);
+    if unread(second) {
+        return;
+    }
+    let mut tree = [0u8; TREE_READ];
+    let third = read_argument(4, &mut tree);
+    if unread(third) {
+        return;
+    }
+    print_keeping(op_tree::keep(
+        part_read(first, &profile),
+        part_read(second, &question),
+        part_read(third, &tree),
+    ));
 }
 
 // `profile body PROFILE N`: digits alone are a number.

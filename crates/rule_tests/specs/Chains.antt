@@ -7,10 +7,10 @@ use Rattle.meaning.specs.Lists.{any, isEmpty, same}
 use Rattle.meaning.specs.Paths.{member, simple, join}
 use Rattle.meaning.specs.Keys.{Key}
 use Rattle.meaning.specs.Records.{keyIn}
-use Rattle.theory_lines.specs.SameParts.{sameContext, sameTarget, sameSets, holdsEmpty, allBegin, allAmong, prefixEpsilonTest, superkeyTest, contextPathTest, targetPathTest}
-use Rattle.theory_lines.specs.Subnodes.{goesOn, subnodesTest, subnodesEpsilonTest}
-use Rattle.theory_lines.specs.Cuts.{endsPath, contextTargetTest}
-use Rattle.theory_lines.specs.Interactions.{prefixed, interactionTest}
+use Rattle.theory_rule_tests.specs.SameParts.{sameContext, sameTarget, sameSets, holdsEmpty, allBegin, allAmong, prefixEpsilonTest, superkeyTest, contextPathTest, targetPathTest}
+use Rattle.theory_rule_tests.specs.Subnodes.{goesOn, subnodesTest, subnodesEpsilonTest}
+use Rattle.theory_rule_tests.specs.Cuts.{endsPath, contextTargetTest}
+use Rattle.theory_rule_tests.specs.Interactions.{prefixed, interactionTest}
 use Rattle.rule_tests.specs.Compare.{same-sym, stop, go-on, and-three, test-true}
 use Rattle.rule_tests.specs.Parts.{LineKeys}
 use Rattle.rule_tests.specs.RuleLaws.{Cut, longerOnly, longerLast, cutContext, premisesMeet, concludes, interaction-parts}

@@ -11,7 +11,7 @@ use borrow.Author.Tests.{not-true, not-false}
 use borrow.Rule.Slice.PartAt.{part-to-end}
 use Rattle.meaning.specs.Lists.{same}
 use Rattle.theory_paths.specs.Bools.{bool-eq, same-eq, eq-same, of-true, false-of, of-false}
-use Rattle.theory_lines.specs.Cuts.{startsAny}
+use Rattle.theory_rule_tests.specs.Cuts.{startsAny}
 
 -- A test of two: it fails at the first, or it goes on to the second
 pub stop : {r a : Bool} (b : Bool) → r ≡ a → not r ≡ true → false ≡ (a && b)

@@ -18,13 +18,14 @@ use Rattle.meaning.specs.Records.{keyIn}
 use Rattle.meaning.specs.Rules.{withEmpty}
 use Rattle.theory_paths.specs.Bools.{bool-eq, same-eq, eq-same, and-left, and-right, both, of-true, true-of, false-of}
 use Rattle.theory_paths.specs.Normal.{normal-left}
-use Rattle.theory_lines.specs.Beginnings.{begins, begins-split}
-use Rattle.theory_lines.specs.SameParts.{sameContext, sameSets, sets-eq, eq-sets}
-use Rattle.theory_lines.specs.Subnodes.{goesOn, further, onlyPath, lastPath}
-use Rattle.theory_lines.specs.Cuts.{endsPath, beforeEnd, startsAny}
-use Rattle.theory_lines.specs.Interactions.{prefixed, interactionTest}
-use Rattle.joins.specs.Joins.{BothNormal}
-use Rattle.joins.specs.Forms.{isBeginning, beginning-rest}
+use Rattle.theory_paths.specs.Lists.{with-empty-last}
+use Rattle.theory_rule_tests.specs.Beginnings.{begins, begins-split}
+use Rattle.theory_rule_tests.specs.SameParts.{sameContext, sameSets, sets-eq, eq-sets}
+use Rattle.theory_rule_tests.specs.Subnodes.{goesOn, further, onlyPath, lastPath}
+use Rattle.theory_rule_tests.specs.Cuts.{endsPath, beforeEnd, startsAny}
+use Rattle.theory_rule_tests.specs.Interactions.{prefixed, interactionTest}
+use Rattle.rule_joins.specs.Joins.{BothNormal}
+use Rattle.rule_joins.specs.Forms.{isBeginning, beginning-rest}
 use Rattle.rule_tests.specs.Walks.{beginning-is}
 use Rattle.rule_tests.specs.Compare.{same-sym, stop, go-on}
 use Rattle.rule_tests.specs.Parts.{TwoKeys, LineKey, LineKeys}
@@ -108,19 +109,14 @@ module _ (p k : Key) where
 unfoldable pub longerLast : Key → Key → Bool
 longerLast p k = sameSets (p .paths) (withEmpty (lastPath p)) && sameSets (k .paths) (withEmpty (further p k ++ lastPath p))
 
-last-with-empty : (x : List ℕ) → getD (withEmpty x) (length (withEmpty x) - 1) [] ≡ x
-unfolding withEmpty
-last-with-empty [] = refl
-last-with-empty (s ∷ x) = refl
-
 -- a set is {empty, x} exactly where it is {empty, its last} and its last is x
-with-empty-last : (k : Key) (x : List ℕ) → sameSets (k .paths) (withEmpty x) ≡ (sameSets (k .paths) (withEmpty (lastPath k)) && same (lastPath k) x)
+ends-with-empty : (k : Key) (x : List ℕ) → sameSets (k .paths) (withEmpty x) ≡ (sameSets (k .paths) (withEmpty (lastPath k)) && same (lastPath k) x)
 unfolding lastPath
-with-empty-last k x =
+ends-with-empty k x =
     bool-eq _ _
     (λ t.
     let e = sets-eq (k .paths) (withEmpty x) t in
-    let l : getD (k .paths) (length (k .paths) - 1) [] ≡ x = ap (λ (ps : List (List ℕ)). getD ps (length ps - 1) []) e ∙ last-with-empty x in
+    let l : getD (k .paths) (length (k .paths) - 1) [] ≡ x = ap (λ (ps : List (List ℕ)). getD ps (length ps - 1) []) e ∙ with-empty-last x in
     both (sameSets (k .paths) (withEmpty (lastPath k))) (same (lastPath k) x) (eq-sets _ _ (e ∙ ap withEmpty (sym l))) (eq-same _ _ l))
     (λ t.
     eq-sets _ _
@@ -135,7 +131,7 @@ module _ (p k : Key) where
   pub last-new : {r : Bool} → r ≡ sameSets (p .paths) (withEmpty (lastPath p)) → not r ≡ false
       → {s : Bool} → s ≡ sameSets (k .paths) (withEmpty (lastPath k)) → not s ≡ true → false ≡ longerLast p k
   unfolding longerLast
-  last-new e t g h = go-on e t (stop (same (lastPath k) (further p k ++ lastPath p)) g h ∙ sym (with-empty-last k (further p k ++ lastPath p)))
+  last-new e t g h = go-on e t (stop (same (lastPath k) (further p k ++ lastPath p)) g h ∙ sym (ends-with-empty k (further p k ++ lastPath p)))
 
   pub last-both : {r : Bool} → r ≡ sameSets (p .paths) (withEmpty (lastPath p)) → not r ≡ false
       → {s : Bool} → s ≡ sameSets (k .paths) (withEmpty (lastPath k)) → not s ≡ false
@@ -146,7 +142,7 @@ module _ (p k : Key) where
       go-on e t
       (go-on g h
       (q ∙ ap (λ (l : List ℕ). same new (l ++ old)) (part-to-end whole (length front)) ∙ rw (f, w, a, o))
-      ∙ sym (with-empty-last k (drop (length (k .target)) (p .target) ++ lastPath p)))
+      ∙ sym (ends-with-empty k (drop (length (k .target)) (p .target) ++ lastPath p)))
 
 two-paths : (y : ℕ) (r : List ℕ) → [] ∷ (y ∷ r) ∷ [] ≡ withEmpty (y ∷ r)
 unfolding withEmpty

@@ -1,5 +1,5 @@
 // Comparing a path with two others, one behind the other, in place.
-use joins::same;
+use read_record::names::same_bytes;
 ghost use mathlib.Core.Path.{_≡_};
 ghost use mathlib.Core.List.{_++_};
 ghost use Rattle.meaning.specs.Lists.{same as isSame};
@@ -12,8 +12,8 @@ pub fn is_both(path: &[u8], front: &[u8], back: &[u8]) -> bool
     if path.len() < n {
         return false;
     }
-    if !same(&path[..n], front) {
+    if !same_bytes(&path[..n], front) {
         return false;
     }
-    same(&path[n..], back)
+    same_bytes(&path[n..], back)
 }

@@ -2,33 +2,29 @@
 use crate::compare::is_both;
 use crate::sets::all_among;
 use crate::sets::all_begin;
-use crate::sets::holds_empty;
 use crate::sets::is_prefixed;
 use crate::sets::same_sets;
-use joins::begins;
-use joins::join_is;
-use joins::same;
-use joins::simple;
-use paths::ANY_PATH;
-use paths::included;
-use shapes::keys::context;
-use shapes::keys::count;
-use shapes::keys::path;
-use shapes::keys::target;
-ghost use Prim.Native.Nat.{_<_, _≤_};
+use path_words::ANY_PATH;
+use path_words::included;
+use read_key::symbols::is_simple;
+use read_record::keys::context;
+use read_record::keys::count;
+use read_record::keys::holds_empty;
+use read_record::keys::path;
+use read_record::keys::target;
+use read_record::names::same_bytes;
+use rule_joins::begins;
+use rule_joins::join_is;
+ghost use Prim.Native.Nat.{_<_};
 ghost use mathlib.Core.Path.{_≡_};
 ghost use mathlib.Core.Bool.{true, _&&_};
-ghost use mathlib.Core.List.{List, [], _∷_, _++_};
-ghost use lib.ListN.{length, drop};
-ghost use lib.Dec.{T};
-ghost use Rattle.meaning.specs.Lists.{same as isSame};
-ghost use Rattle.meaning.specs.Paths.{join};
+ghost use lib.ListN.{length};
 ghost use Rattle.meaning.specs.Records.{readKey, keyIn, isSome};
 ghost use Rattle.meaning.specs.Rules.{withEmpty};
-ghost use Rattle.theory_lines.specs.SameParts.{sameContext, sameTarget, sameSets, prefixEpsilonTest, superkeyTest, contextPathTest, targetPathTest};
-ghost use Rattle.theory_lines.specs.Subnodes.{goesOn, lastPath, subnodesTest, subnodesEpsilonTest};
-ghost use Rattle.theory_lines.specs.Cuts.{endsPath, startsAny, contextTargetTest};
-ghost use Rattle.theory_lines.specs.Interactions.{interactionTest};
+ghost use Rattle.theory_rule_tests.specs.SameParts.{sameContext, sameTarget, sameSets, prefixEpsilonTest, superkeyTest, contextPathTest, targetPathTest};
+ghost use Rattle.theory_rule_tests.specs.Subnodes.{goesOn, lastPath, subnodesTest, subnodesEpsilonTest};
+ghost use Rattle.theory_rule_tests.specs.Cuts.{endsPath, startsAny, contextTargetTest};
+ghost use Rattle.theory_rule_tests.specs.Interactions.{interactionTest};
 ghost use Rattle.rule_tests.specs.Parts.{TwoKeys, LineKeys};
 ghost use Rattle.rule_tests.specs.RuleLaws.{Further, Cut, longerOnly, longerLast, cutContext, premisesMeet, concludes};
 
@@ -38,7 +34,7 @@ pub fn same_context(p: &[u8], k: &[u8]) -> bool
 {
     let new = context(k);
     let old = context(p);
-    same(new, old)
+    same_bytes(new, old)
 }
 
 pub fn same_target(p: &[u8], k: &[u8]) -> bool
@@ -47,7 +43,7 @@ pub fn same_target(p: &[u8], k: &[u8]) -> bool
 {
     let new = target(k);
     let old = target(p);
-    same(new, old)
+    same_bytes(new, old)
 }
 
 // Rules 2 and 3 leave context and target unchanged.
@@ -100,7 +96,7 @@ fn goes_on(p: &[u8], k: &[u8]) -> bool
         return false;
     }
     let n = front.len();
-    simple(&whole[n..])
+    is_simple(&whole[n..])
 }
 
 // "S = {p}; gives .. {P.p}"
@@ -178,7 +174,7 @@ fn ends_target(p: &[u8], k: &[u8]) -> bool
         return false;
     }
     let cut = whole.len() - end.len();
-    same(&whole[cut..], end)
+    same_bytes(&whole[cut..], end)
 }
 
 // The path begins with the any-path.
@@ -290,7 +286,7 @@ fn premises_meet(p: &[u8], r: &[u8]) -> bool
     ensures { λ b. ⌜ b ≡ premisesMeet (keyIn (now (p .entry))) (keyIn (now (r .entry))) ⌝ }
 {
     let step = target(r);
-    if !simple(step) {
+    if !is_simple(step) {
         return false;
     }
     if !is_prefixed(p, step, r) {

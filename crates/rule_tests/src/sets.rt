@@ -1,57 +1,29 @@
 // Sets of key paths as they stand in key bodies: "count of key paths; length and symbols of each".
 use crate::compare::is_both;
-use joins::begins;
-use joins::same;
-use shapes::bodies::after_path;
-use shapes::bodies::lead_path;
-use shapes::keys::count;
-use shapes::keys::paths;
+use read_record::bodies::after_path;
+use read_record::bodies::lead_path;
+use read_record::keys::count;
+use read_record::keys::counted_set;
+use read_record::keys::paths;
+use read_record::names::same_bytes;
+use rule_joins::begins;
 ghost use mathlib.Core.Path.{_≡_};
 ghost use mathlib.Core.Bool.{true};
-ghost use Rattle.meaning.specs.Lists.{any, isEmpty, same as isSame};
+ghost use Rattle.meaning.specs.Lists.{any, same as isSame};
 ghost use Rattle.meaning.specs.Records.{readKey, keyIn, isSome};
-ghost use Rattle.shapes.specs.Parts.{setIn};
-ghost use Rattle.theory_lines.specs.Beginnings.{begins as isBeginning};
-ghost use Rattle.theory_lines.specs.SameParts.{allBegin, allAmong, sameSets};
-ghost use Rattle.theory_lines.specs.Interactions.{prefixed};
+ghost use Rattle.theory_rule_tests.specs.Beginnings.{begins as isBeginning};
+ghost use Rattle.theory_rule_tests.specs.SameParts.{allBegin, allAmong, sameSets};
+ghost use Rattle.theory_rule_tests.specs.Interactions.{prefixed};
 ghost use Rattle.rule_tests.specs.Parts.{TwoKeys};
-
-// Where the count of key paths stands.
-fn set_part(body: &[u8]) -> &[u8]
-    requires { ⌜ isSome (readKey (now body)) ≡ true ⌝ }
-    ensures { λ r. ⌜ now r ≡ setIn (now (body .entry)) ⌝ }
-{
-    let behind = after_path(body);
-    after_path(behind)
-}
 
 // Equal sets are equal bytes: each set has one encoding.
 pub fn same_sets(p: &[u8], k: &[u8]) -> bool
     requires { ⌜ TwoKeys (now p) (now k) ⌝ }
     ensures { λ r. ⌜ r ≡ sameSets (keyIn (now (k .entry)) .paths) (keyIn (now (p .entry)) .paths) ⌝ }
 {
-    let new = set_part(k);
-    let old = set_part(p);
-    same(new, old)
-}
-
-// The empty path is in the set.
-pub fn holds_empty(body: &[u8]) -> bool
-    requires { ⌜ isSome (readKey (now body)) ≡ true ⌝ }
-    ensures { λ r. ⌜ r ≡ any isEmpty (keyIn (now (body .entry)) .paths) ⌝ }
-{
-    let n = count(body);
-    let mut rest = paths(body);
-    let mut i = 0;
-    while i < n {
-        if lead_path(rest).len() == 0 {
-            return true;
-        }
-        let next = after_path(rest);
-        rest = next;
-        i += 1;
-    }
-    false
+    let new = counted_set(k);
+    let old = counted_set(p);
+    same_bytes(new, old)
 }
 
 // The path is in the set.
@@ -63,7 +35,7 @@ pub fn is_among(path: &[u8], body: &[u8]) -> bool
     let mut rest = paths(body);
     let mut i = 0;
     while i < n {
-        if same(path, lead_path(rest)) {
+        if same_bytes(path, lead_path(rest)) {
             return true;
         }
         let next = after_path(rest);

@@ -9,10 +9,10 @@ use Rattle.meaning.specs.Lists.Each.{end, also}
 use Rattle.meaning.specs.Paths.{Class}
 use Rattle.meaning.specs.Trees.{Table, Reached}
 use Rattle.meaning.specs.Keys.{Key, EqualPair, Breaks}
-use Rattle.theory_trees.specs.Below.{down-from, ParentsSmaller, down-greater}
+use Rattle.theory_trees.specs.Below.{down-from, ParentsSmaller, down-greater, down-inside}
 use Rattle.theory_counter.specs.Doubled.{Drawn, Written}
 use Rattle.theory_counter.specs.Climb.{own, lifted}
-use Rattle.theory_counter.specs.Crossing.{Marks, down-inside}
+use Rattle.theory_counter.specs.Crossing.{Marks}
 use Rattle.theory_counter.specs.Copies.{copies-equal}
 
 -- The asked key in its pattern: q in the trunk, t below it, and each key path leads to a mark
@@ -46,7 +46,7 @@ module _ {κ : ℕ → Class} {p : Table} {mark : ℕ → Bool} {u : ℕ} {w : T
         y = W .number true (m .node) false;
         fromFirst = lifted-reach false (m .reached);
         fromSecond = lifted-reach true (m .reached);
-        equal = copies-equal D W (m .node) (omega arith) (down-inside h (m .reached .down)) (m .isMarked);
+        equal = copies-equal D W (m .node) (omega arith) (down-inside (m .reached .down) h) (m .isMarked);
       }
 
   all-pairs : (t : ℕ) → u < t → t < p .size → {Ps : List (List ℕ)} → Each (Marks p mark t) Ps

@@ -14,7 +14,7 @@ use Rattle.meaning.specs.Paths.{Label, Agrees, classOf, singles}
 use Rattle.meaning.specs.Refusals.{isSymbol}
 use Rattle.meaning.specs.Trees.{IsTree, Once, tableOf}
 use Rattle.meaning.specs.Keys.{Key, Breaks, Keeps, Implied}
-use Rattle.meaning.specs.Pattern.{tOf, patternNodes, pattern, marked, IsU, writtenNodes}
+use Rattle.meaning.specs.Pattern.{tOf, pattern, marked, IsU, writtenNodes}
 use Rattle.theory_paths.specs.Bools.{every-each, Each-of}
 use Rattle.theory_paths.specs.Good.{
   GoodLabels,
@@ -25,12 +25,12 @@ use Rattle.theory_paths.specs.Good.{
   key-path-simple,
   paths-some,
 }
-use Rattle.theory_counter.specs.Doubled.{Drawn, Written}
+use Rattle.theory_counter.specs.Doubled.{Written}
 use Rattle.theory_counter.specs.Twins.{written-tree}
 use Rattle.theory_counter.specs.Ending.{Without}
 use Rattle.theory_counter.specs.Crossing.{KeyShape, breaks-crosses}
 use Rattle.theory_counter.specs.Breaking.{asked-breaks}
-use Rattle.theory_counter.specs.PatternLaws.{pattern-length}
+use Rattle.theory_counter.specs.PatternLaws.{trunk-inside}
 use Rattle.theory_counter.specs.PatternTree.{pattern-drawn, pattern-asked}
 use Rattle.theory_counter.specs.Leading.{crosses-never, hangs-never}
 use Rattle.theory_counter.specs.Singles.{written-once}
@@ -62,23 +62,17 @@ unfolding Agrees
 class-agrees labels n t = refl
 
 module _ (labels : List Label) (good : GoodLabels labels) (limits : KeyLimits) (asked : Key) (g : GoodKey labels limits asked) (u : ℕ) (h : u < tOf asked) where
-  trunk-inside : u < length (patternNodes asked)
-  trunk-inside = let l = pattern-length asked in omega arith
-
-  pub counter-drawn : Drawn (classOf labels) (pattern asked) (marked asked) u
-  counter-drawn = pattern-drawn labels good limits asked g u h
-
   pub counter-written : Written (classOf labels) (pattern asked) (marked asked) u (tableOf (writtenNodes (classOf labels) asked u))
-  counter-written = written-doubled (classOf labels) asked u trunk-inside counter-drawn
+  counter-written = written-doubled (classOf labels) asked u (trunk-inside asked u h) (pattern-drawn labels good limits asked g u h)
 
   -- it is a tree
   pub counter-tree : IsTree (classOf labels) (tableOf (writtenNodes (classOf labels) asked u))
-  counter-tree = written-tree counter-drawn counter-written
+  counter-tree = written-tree (pattern-drawn labels good limits asked g u h) counter-written
 
   module _ (single : ℕ → Bool) (keys : List Key) (m : IsU single keys asked u) where
     -- it breaks the question
     pub counter-breaks : Breaks (classOf labels) (tableOf (writtenNodes (classOf labels) asked u)) asked
-    counter-breaks = asked-breaks counter-drawn counter-written asked (pattern-asked asked u (m .fromQ) h)
+    counter-breaks = asked-breaks (pattern-drawn labels good limits asked g u h) counter-written asked (pattern-asked asked u (m .fromQ) h)
 
     -- it keeps each profile key
     keeps-among : (ks : List Key) → ((k : Key) → List·Memᴰ k ks → List·Memᴰ k keys) → Each (GoodKey labels limits) ks
@@ -89,7 +83,7 @@ module _ (labels : List Label) (good : GoodLabels labels) (limits : KeyLimits) (
         also
         (λ b.
         crosses-never single keys asked u m h k (among k (List·Memᴰ·head refl))
-        (breaks-crosses counter-drawn counter-written k (key-shape labels good limits k a) b))
+        (breaks-crosses (pattern-drawn labels good limits asked g u h) counter-written k (key-shape labels good limits k a) b))
         (keeps-among ks (λ j i. among j (List·Memᴰ·tail i)) rest)
 
     pub counter-keeps : Each (GoodKey labels limits) keys → Each (Keeps (classOf labels) (tableOf (writtenNodes (classOf labels) asked u))) keys
@@ -97,7 +91,7 @@ module _ (labels : List Label) (good : GoodLabels labels) (limits : KeyLimits) (
 
     -- it is a tree of the edition, as the pattern is
     pub counter-once : Once single (pattern asked) → Once single (tableOf (writtenNodes (classOf labels) asked u))
-    counter-once once = written-once counter-drawn counter-written single once (hangs-never single keys asked u m h)
+    counter-once once = written-once (pattern-drawn labels good limits asked g u h) counter-written single once (hangs-never single keys asked u m h)
 
 -- so the question is not implied
 module _ (second : Bool) (labels : List Label) (good : GoodLabels labels) (asked : Key) (g : GoodKey labels inProfile asked) (u : ℕ) (h : u < tOf asked)

@@ -12,11 +12,11 @@ use Rattle.meaning.specs.Limits.{fillerAttribute}
 use Rattle.meaning.specs.Lists.{Each}
 use Rattle.meaning.specs.Lists.Each.{end, also}
 use Rattle.meaning.specs.Paths.{Class, member, simple}
-use Rattle.meaning.specs.Trees.{Table, Down, here, step, Reached}
+use Rattle.meaning.specs.Trees.{Table, Down, here, Reached}
 use Rattle.meaning.specs.Keys.{Key, EqualPair, Breaks}
 use Rattle.theory_paths.specs.Words.{Word, member→word, word→member}
 use Rattle.theory_paths.specs.Simple.{simple-word}
-use Rattle.theory_trees.specs.Below.{rigid-node}
+use Rattle.theory_trees.specs.Below.{rigid-node, down-inside}
 use Rattle.theory_counter.specs.Doubled.{Drawn, Stands, Written}
 use Rattle.theory_counter.specs.Climb.{Above, AboveFiller, own, above-own, above-filler}
 use Rattle.theory_counter.specs.Twins.{Twins, equal-twins}
@@ -75,11 +75,6 @@ record Context (p : Table) (u : ℕ) (number : Bool → ℕ → Bool → ℕ) (v
 -- a simple path's word is itself
 reached-run : {t : Table} {a x : ℕ} {P : List ℕ} → T (simple P) → (r : Reached t a P x) → r .run ≡ P
 reached-run {P = P} s r = simple-word P (r .run) s (member→word P (r .run) (r .word))
-
--- below a node of the table stand nodes of the table
-pub down-inside : {t : Table} {v n : ℕ} {run : List ℕ} → v < t .size → Down t v run n → n < t .size
-down-inside h (here q) = omega arith
-down-inside h (step x c l d) = down-inside (c .inside) d
 
 module _ {κ : ℕ → Class} {p : Table} {mark : ℕ → Bool} {u : ℕ} {w : Table} (D : Drawn κ p mark u) (W : Written κ p mark u w) where
   not-filled : {P run : List ℕ} (front : List ℕ) → Without fillerAttribute P → run ≡ P → run ≡ front ++ (fillerAttribute ∷ []) → ⊥
@@ -156,7 +151,7 @@ module _ {κ : ℕ → Class} {p : Table} {mark : ℕ → Bool} {u : ℕ} {w : T
       d
       (rigid-node (e .fromFirst .down) (subst (λ (n : ℕ). Down w b (e .fromSecond .run) n) (sym q) (e .fromSecond .down))
       (ap length (reached-run (k .isSimple) (e .fromFirst) ∙ sym (reached-run (k .isSimple) (e .fromSecond))))) in
-      let t = equal-twins D W (down-inside ha (e .fromFirst .down)) (down-inside hb (e .fromSecond .down)) (e .equal) in
+      let t = equal-twins D W (down-inside (e .fromFirst .down) ha) (down-inside (e .fromSecond .down) hb) (e .equal) in
       climb k e d t (t .marked differ)
 
   -- each key path reaches a mark from the one pattern node
@@ -260,7 +255,7 @@ module _ {κ : ℕ → Class} {p : Table} {mark : ℕ → Bool} {u : ℕ} {w : T
       let t = D .trunk in
       let z = W .zeroth false in
       let root = W .within false (own D W {x = 0} (omega arith)) in
-      let hq = down-inside {v = 0} (omega arith) (b .context .down) in
-      let ha = down-inside hq (b .first .down) in
-      let hb = down-inside hq (b .second .down) in
+      let hq = down-inside {v = 0} (b .context .down) (omega arith) in
+      let ha = down-inside (b .first .down) hq in
+      let hb = down-inside (b .second .down) hq in
       crossing k shape b (first-targets ha hb (b .different) (k .paths) (shape .some) (shape .paths) (b .pairs) .1) ha hb

@@ -19,7 +19,8 @@ use Rattle.theory_paths.specs.Words.{Word, word→member}
 use Rattle.theory_paths.specs.Valid.{mayStep, valid-first, valid-tail}
 use Rattle.theory_paths.specs.Good.{GoodLabels, filler-element, symbol-not-high}
 use Rattle.theory_counter.specs.Numbered.{Numbered, none, next, Is, numbered-append, numbered-left, numbered-right}
-use Rattle.theory_counter.specs.Lines.{last, run-length}
+use Rattle.theory_counter.specs.Lines.{last}
+use Rattle.theory_derive.specs.Numbers.{run-length}
 
 drawn-zero : drawn 0 ≡ fillerElement
 unfolding drawn

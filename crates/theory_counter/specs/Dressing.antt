@@ -26,7 +26,7 @@ width true = omega arith
 width false = omega arith
 
 module _ (κ : ℕ → Class) (asked : Key) where
-  place-step : (x : ℕ) → x < length (patternNodes asked)
+  pub place-step : (x : ℕ) → x < length (patternNodes asked)
       → placeOf κ asked (suc x) ≡ suc (placeOf κ asked x + bit (isElement (κ (getD (patternNodes asked) x noNode .label))))
   unfolding placeOf widths
   place-step x h =

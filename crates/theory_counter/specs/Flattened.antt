@@ -8,11 +8,6 @@ use lib.ListN.{length, getD, length-append, List·getD-append}
 use lib.Seq.{getD-append-add}
 use Rattle.meaning.specs.Lists.{numbers}
 
-pub numbers-length : (count start : ℕ) → length (numbers count start) ≡ count
-unfolding numbers
-numbers-length zero start = refl
-numbers-length (suc count) start = ap suc (numbers-length count (suc start))
-
 pub map-numbers-at : {A : Type 0} (f : ℕ → A) (count start i n : ℕ) (d : A) → i < count → n ≡ start + i → getD (map f (numbers count start)) i d ≡ f n
 unfolding numbers
 map-numbers-at f zero start i n d h e = absurd (omega arith)

@@ -12,6 +12,7 @@ use Rattle.meaning.specs.Trees.{Node, tableOf, Down, here, step}
 use Rattle.meaning.specs.Pattern.{drawn, run, branches, ends}
 use Rattle.theory_paths.specs.Bools.{or-cases}
 use Rattle.theory_counter.specs.Numbered.{Numbered, none, next, Is, numbered-append, numbered-map, numbered-both}
+use Rattle.theory_derive.specs.Numbers.{run-length}
 
 -- the symbols of a set of paths, counted
 unfoldable pub total : List (List ℕ) → ℕ
@@ -22,11 +23,6 @@ total (p ∷ ps) = length p + total ps
 unfoldable pub last : ℕ → ℕ → List ℕ → ℕ
 last above n [] = above
 last above n (s ∷ p) = last n (suc n) p
-
-pub run-length : (above n : ℕ) (p : List ℕ) → length (run above n p) ≡ length p
-unfolding run
-run-length above n [] = refl
-run-length above n (s ∷ p) = ap suc (run-length n (suc n) p)
 
 pub branches-length : (t n : ℕ) (S : List (List ℕ)) → length (branches t n S) ≡ total S
 unfolding branches total

@@ -21,8 +21,9 @@ use Rattle.theory_paths.specs.Valid.{valid-before}
 use Rattle.theory_paths.specs.Good.{GoodLabels, GoodKey, class-root, context-symbols, target-symbols, key-path-symbols, valid-chain, valid-whole, valid-key-path}
 use Rattle.theory_counter.specs.Crossing.{Marks}
 use Rattle.theory_counter.specs.Numbered.{Numbered, next, Is, numbered-append, numbered-left, numbered-right, numbered-at, numbered-map, numbered-whole}
-use Rattle.theory_counter.specs.Lines.{total, last, run-length, branches-length, last-chain, last-end, run-down, Hangs, chain-hangs, branches-hang, longs, Bare, ends-after, ends-bare}
+use Rattle.theory_counter.specs.Lines.{total, last, branches-length, last-chain, last-end, run-down, Hangs, chain-hangs, branches-hang, longs, Bare, ends-after, ends-bare}
 use Rattle.theory_counter.specs.Drawing.{drawn-member, Known, run-known, branches-known, Inside, IsElementAt, run-inside, last-element, branches-inside}
+use Rattle.theory_derive.specs.Numbers.{run-length}
 
 -- The nodes behind the root
 module _ (asked : Key) where
@@ -46,6 +47,10 @@ module _ (asked : Key) where
       ap suc
       (length-append (run 0 1 (asked .context ++ asked .target)) (branches (tOf asked) (suc (tOf asked)) (asked .paths))
       ∙ ap₂ _+_ chain-length (branches-length (tOf asked) (suc (tOf asked)) (asked .paths)))
+
+  -- the trunk's nodes are nodes of the pattern
+  pub trunk-inside : (u : ℕ) → u < tOf asked → u < length (patternNodes asked)
+  trunk-inside u h = let l = pattern-length in omega arith
 
   -- a law of the nodes behind the root, read at a number
   behind : {Q : ℕ → Node → Type 0} → Numbered Q 1 (chain ++ twigs) → (x : ℕ) → 0 < x → x < length (patternNodes asked)
@@ -120,7 +125,7 @@ module _ (labels : List Label) (good : GoodLabels labels) (limits : KeyLimits) (
       x h k
 
 -- The marks
-longs-of : (S : List (List ℕ)) → any isEmpty S ≡ false → longs S
+pub longs-of : (S : List (List ℕ)) → any isEmpty S ≡ false → longs S
 unfolding any isEmpty longs
 longs-of [] e = tt
 longs-of ([] ∷ S) e = absurd (true≢false e)

@@ -16,7 +16,7 @@ use Rattle.theory_counter.specs.Doubled.{Drawn}
 use Rattle.theory_counter.specs.Crossing.{Marks}
 use Rattle.theory_counter.specs.Breaking.{Asked}
 use Rattle.theory_counter.specs.Numbered.{Numbered, Is, numbered-left, numbered-right}
-use Rattle.theory_counter.specs.Lines.{last, run-length, run-append, last-chain, run-down}
+use Rattle.theory_counter.specs.Lines.{last, run-append, last-chain, run-down}
 use Rattle.theory_counter.specs.Drawing.{drawn-member, Inside}
 use Rattle.theory_counter.specs.PatternLaws.{
   chain,
@@ -31,6 +31,7 @@ use Rattle.theory_counter.specs.PatternLaws.{
   end-marked,
   marks-closed,
 }
+use Rattle.theory_derive.specs.Numbers.{run-length}
 
 module _ (labels : List Label) (good : GoodLabels labels) (limits : KeyLimits) (asked : Key) (g : GoodKey labels limits asked) (u : ℕ) (h : u < tOf asked) where
   no-filler : (x : ℕ) → x < length (patternNodes asked) → getD (patternNodes asked) x noNode .label ≢ fillerAttribute

@@ -8,18 +8,7 @@ use lib.Dec.{T}
 use Rattle.meaning.specs.Lists.{keep, numbers}
 use Rattle.meaning.specs.Paths.{Class}
 use Rattle.meaning.specs.Trees.{Table, Equal, EqualLists, ended, paired}
-
-pub numbers-append : (a b n : ℕ) → numbers (a + b) n ≡ numbers a n ++ numbers b (n + a)
-unfolding numbers
-numbers-append zero b n =
-    let e : zero + b ≡ b = omega arith in
-    let e′ : n ≡ n + zero = omega arith in
-    ap (λ (k : ℕ). numbers k n) e ∙ ap (λ (k : ℕ). numbers b k) e′
-numbers-append (suc a) b n =
-    let e : suc a + b ≡ suc (a + b) = omega arith in
-    let e′ : suc n + a ≡ n + suc a = omega arith in
-    ap (λ (k : ℕ). numbers k n) e
-    ∙ ap (λ (l : List ℕ). n ∷ l) (numbers-append a b (suc n) ∙ ap (λ (k : ℕ). numbers a (suc n) ++ numbers b k) e′)
+use Rattle.theory_paths.specs.Lists.{numbers-append}
 
 pub keep-append : {A : Type 0} (f : A → Bool) (xs ys : List A) → keep f (xs ++ ys) ≡ keep f xs ++ keep f ys
 unfolding keep

@@ -15,14 +15,14 @@ use Rattle.meaning.specs.Paths.{Class, Label, declared, isLabel, element, isEle
 use Rattle.meaning.specs.Refusals.{sound, goodRoot, treeRefusal, nodesIn}
 use Rattle.meaning.specs.Trees.{noNode, tableOf, Once}
 use Rattle.meaning.specs.Keys.{Key}
-use Rattle.meaning.specs.Pattern.{qOf, tOf, patternNodes, writtenNodes, writtenTree}
+use Rattle.meaning.specs.Pattern.{qOf, tOf, writtenNodes, writtenTree}
 use Rattle.theory_paths.specs.Bools.{true-of, or-right}
 use Rattle.theory_paths.specs.Good.{GoodLabels, GoodKey, class-root}
 use Rattle.theory_records.specs.TreeFiles.{NodeBelow, NodesGood, NodesOnce}
 use Rattle.meaning.specs.Records.{valueBytes}
 use Rattle.theory_records.specs.Written.{NodeFits}
 use Rattle.theory_records.specs.WrittenInputs.{tree-written-sound, nodes-in-written}
-use Rattle.theory_counter.specs.PatternLaws.{pattern-length, pattern-known}
+use Rattle.theory_counter.specs.PatternLaws.{pattern-known, trunk-inside}
 use Rattle.theory_counter.specs.WrittenTable.{element-zero, value-within, root-parent, label-of}
 use Rattle.theory_counter.specs.Counterexample.{counter-tree}
 use Rattle.theory_counter.specs.Size.{written-most}
@@ -33,16 +33,13 @@ each-index d [] h = end
 each-index d (x ∷ xs) h = also (h 0 (omega arith)) (each-index d xs (λ i l. h (suc i) (omega arith)))
 
 module _ (labels : List Label) (good : GoodLabels labels) (limits : KeyLimits) (asked : Key) (g : GoodKey labels limits asked) (u : ℕ) (h : u < tOf asked) where
-  inside : u < length (patternNodes asked)
-  inside = let l = pattern-length asked in omega arith
-
   known-label : (n : ℕ) → 0 < n → n < length (writtenNodes (classOf labels) asked u)
       → isLabel labels (getD (writtenNodes (classOf labels) asked u) n noNode .label) ≡ true
   unfolding isLabel
   known-label n pos l =
       ⊎-elim (λ e. ap (isLabel labels) e ∙ filler)
       (λ r. ap (isLabel labels) (r .3) ∙ true-of _ (pattern-known labels good limits asked g (r .0) (r .1) (r .2) .isKnown))
-      (label-of (classOf labels) asked u inside n pos l)
+      (label-of (classOf labels) asked u (trunk-inside asked u h) n pos l)
     where
       filler : isLabel labels fillerAttribute ≡ true
       filler = true-of (isLabel labels 202) (or-right (eqb 202 1 || declared labels 202 || eqb 202 201) (eqb 202 202) tt)
@@ -63,16 +60,16 @@ module _ (labels : List Label) (good : GoodLabels labels) (limits : KeyLimits) (
       go false e = refl
       go true e =
           ap (λ (k : ℕ). eqb k 0)
-          (element-zero (classOf labels) asked u inside n l (subst (λ (b : Bool). T b) (sym e) tt))
+          (element-zero (classOf labels) asked u (trunk-inside asked u h) n l (subst (λ (b : Bool). T b) (sym e) tt))
 
   good-root : 0 < length (writtenNodes (classOf labels) asked u) → goodRoot (getD (writtenNodes (classOf labels) asked u) 0 noNode) ≡ true
   unfolding goodRoot tableOf isElement
   good-root l =
       let t = counter-tree labels good limits asked g u h in
-      let a = root-parent (classOf labels) asked u inside in
+      let a = root-parent (classOf labels) asked u (trunk-inside asked u h) in
       let c : classOf labels (getD (writtenNodes (classOf labels) asked u) 0 noNode .label) ≡ element =
       ap (classOf labels) (t .root) ∙ class-root labels good in
-      let v = element-zero (classOf labels) asked u inside 0 l (subst (λ (k : Class). T (isElement k)) (sym c) tt) in
+      let v = element-zero (classOf labels) asked u (trunk-inside asked u h) 0 l (subst (λ (k : Class). T (isElement k)) (sym c) tt) in
       ap (λ (k : ℕ). eqb k noNumber && eqb (getD (writtenNodes (classOf labels) asked u) 0 noNode .label) rootLabel && eqb (getD (writtenNodes (classOf labels) asked u) 0 noNode .value) 0) a
       ∙ ap (λ (k : ℕ). eqb k rootLabel && eqb (getD (writtenNodes (classOf labels) asked u) 0 noNode .value) 0) (t .root)
       ∙ ap (λ (k : ℕ). eqb k 0) v
@@ -87,13 +84,13 @@ module _ (second : Bool) (labels : List Label) (good : GoodLabels labels) (asked
       record {
         parent = above n l;
         value =
-            let v = value-within (classOf labels) asked u (inside labels good inProfile asked g u h) n l in
+            let v = value-within (classOf labels) asked u (trunk-inside asked u h) n l in
             let m = written-most (classOf labels) labels asked g u q (le-of-lt h) in
             unfold valueBytes in omega arith;
       }
     where
       above : (n : ℕ) → n < length (writtenNodes (classOf labels) asked u) → getD (writtenNodes (classOf labels) asked u) n noNode .parent < 65536
-      above zero l = let r = root-parent (classOf labels) asked u (inside labels good inProfile asked g u h) in omega arith
+      above zero l = let r = root-parent (classOf labels) asked u (trunk-inside asked u h) in omega arith
       above (suc n) l =
           let p = good-node labels good inProfile asked g u h (suc n) (omega arith) l .above in
           let m = written-most (classOf labels) labels asked g u q (le-of-lt h) in
@@ -119,7 +116,7 @@ module _ (second : Bool) (labels : List Label) (good : GoodLabels labels) (asked
           → getD (writtenNodes (classOf labels) asked u) i noNode .parent ≡ getD (writtenNodes (classOf labels) asked u) j noNode .parent
           → getD (writtenNodes (classOf labels) asked u) i noNode .label ≡ getD (writtenNodes (classOf labels) asked u) j noNode .label → ⊥
       go zero j l k t e f =
-          let r = root-parent (classOf labels) asked u (inside labels good inProfile asked g u h) in
+          let r = root-parent (classOf labels) asked u (trunk-inside asked u h) in
           let p = good-node labels good inProfile asked g u h j (omega arith) k .above in
           let m = written-most (classOf labels) labels asked g u q (le-of-lt h) in
           omega arith

@@ -15,8 +15,9 @@ use Rattle.meaning.specs.Pattern.{patternNodes, pattern, placeOf, dressedNodes,
 use Rattle.theory_counter.specs.Doubled.{Stands}
 use Rattle.theory_counter.specs.Places.{bit, shift, numberOf, shift-trunk, shift-below, Placing, place-below, place-within}
 use Rattle.theory_counter.specs.Doubling.{number-trunk, number-first, number-second}
-use Rattle.theory_counter.specs.Flattened.{numbers-length, map-numbers-at}
+use Rattle.theory_counter.specs.Flattened.{map-numbers-at}
 use Rattle.theory_counter.specs.Dressing.{dressed-all, dressed-placing}
+use Rattle.theory_paths.specs.Lists.{numbers-length}
 
 -- the length of one copy
 unfoldable pub gapOf : (ℕ → Class) → Key → ℕ → ℕ

@@ -1,27 +1,23 @@
 -- Verdict "implied": the lines that the remembered steps give are a proof that the check accepts, and what it shows is true of every tree.
-use Prim.Native.Nat.{ℕ, zero, suc, _≤_, _<_}
-use mathlib.Core.Path.{_≡_, refl, sym, _∙_, ap, subst}
-use mathlib.Core.Bool.{Bool, true, false, cond}
-use mathlib.Core.List.{List, [], _∷_, map, flatten}
+use Prim.Native.Nat.{ℕ, _≤_}
+use mathlib.Core.Path.{_≡_, refl, sym, subst}
+use mathlib.Core.List.{List, [], map, flatten}
 use native.Mathlib.Omega.{arith}
-use lib.Dec.{eqb, ltb}
-use borrow.Author.Tests.{le-ltb, eq-eqb}
 use lib.ListN.{length}
 use Rattle.meaning.specs.Limits.{inProfile, inProof, proofBytes}
 use Rattle.meaning.specs.Lists.{Each, end, also}
 use Rattle.meaning.specs.Paths.{Label}
-use Rattle.meaning.specs.Keys.{Key}
 use Rattle.meaning.specs.Rules.{Line, Accepted}
 use Rattle.meaning.specs.Records.{lineBytes}
 use Rattle.meaning.specs.Refusals
-use Rattle.meaning.specs.Refusals.{Refusal, Walked, firstRefusal, oversize, sound, profileRefusal, questionRefusal, questionIn, proofWalked}
+use Rattle.meaning.specs.Refusals.{Walked, profileRefusal, questionRefusal, questionIn, proofWalked}
 use Rattle.meaning.specs.Operations
-use Rattle.meaning.specs.Operations.{secondIn, singleIn, labelsIn, keysIn, Unless, choose, ChecksProof, ProofJudged, proved, plain, filled, accepted, implied, ProofWritten}
-use Rattle.theory_paths.specs.Good.{GoodLabels, GoodKey}
+use Rattle.meaning.specs.Operations.{secondIn, singleIn, labelsIn, keysIn, ChecksProof, ProofJudged, proved, plain, filled, accepted, implied, ProofWritten}
+use Rattle.theory_paths.specs.Good.{GoodKey}
 use Rattle.theory_records.specs.Profiles.{accepted-labels, accepted-keys, accepted-few}
 use Rattle.theory_records.specs.Questions.{question-accepts}
 use Rattle.theory_records.specs.WrittenInputs.{LineFits, proof-walked-written}
-use Rattle.theory_operations.specs.Refusing.{unless-sound, sound-more, sound-end, fits-size}
+use Rattle.theory_answers.specs.Refusing.{unless-sound, sound-more, sound-end, fits-size}
 use Rattle.theory_rules.specs.Accepted.{accepted-implied}
 use Rattle.theory_derive.specs.Spots.{Taken, Ends, Chain}
 use Rattle.theory_derive.specs.Singles.{single-clear}

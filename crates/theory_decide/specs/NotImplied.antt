@@ -38,7 +38,7 @@ use Rattle.theory_counter.specs.Counterexample.{counter-tree, counter-breaks, c
 use Rattle.theory_counter.specs.WrittenFile.{counter-accepted, counter-read}
 use Rattle.theory_counter.specs.Size.{written-most}
 use Rattle.theory_trees.specs.Existence.{first-exists}
-use Rattle.theory_operations.specs.Refusing.{unless-sound, sound-more, sound-end}
+use Rattle.theory_answers.specs.Refusing.{unless-sound, sound-more, sound-end}
 
 module _ (profile question : List ℕ) (soundProfile : profileRefusal profile .number ≡ 0)
     (soundQuestion : questionRefusal (labelsIn profile) question .number ≡ 0) (u : ℕ) (isU : IsU (singleIn profile) (keysIn profile) (questionIn question) u) where

@@ -1,16 +1,15 @@
 -- One law for each `return` of the operation that decides a question.
 use Prim.Native.Nat.{ℕ, _≤_, _<_}
-use mathlib.Core.Path.{_≡_, refl, sym, _∙_, ap, subst}
-use mathlib.Core.Logic.{_⊎_, inl, inr}
+use mathlib.Core.Path.{_≡_, _∙_}
+use mathlib.Core.Logic.{inl, inr}
 use mathlib.Core.List.{List, [], _∷_}
-use native.Mathlib.Omega.{arith}
 use lib.ListN.{length}
 use Rattle.meaning.specs.Paths.{classOf}
 use Rattle.meaning.specs.Refusals
 use Rattle.meaning.specs.Refusals.{Refusal, sound, profileRefusal, questionRefusal, questionIn, answerRefusal}
 use Rattle.meaning.specs.Pattern.{IsU, tOf, writtenTree}
 use Rattle.meaning.specs.Operations.{Decides, refusedBy, filled, implied, notImplied, singleIn, labelsIn, keysIn}
-use Rattle.theory_operations.specs.Refusing.{unless-small, unless-sound, unless-refused, sound-more, sound-end, first-passes, first-stops, answer-large, profile-settled, question-settled, first-named, sound-number}
+use Rattle.theory_answers.specs.Refusing.{unless-small, unless-sound, unless-refused, sound-more, sound-end, first-passes, answer-large, profile-settled, question-settled, first-named, sound-number}
 use Rattle.theory_derive.specs.Spots.{Taken, Ends, Chain}
 use Rattle.theory_decide.specs.Implied.{proofBytesOf, implied-written}
 use Rattle.theory_decide.specs.NotImplied.{not-implied-written}
@@ -21,22 +20,7 @@ module _ (profile question buffer : List ℕ) where
   decide-small h = unless-small _ buffer _ h
 
   module _ (room : 65536 ≤ length buffer) where
-    pub decide-profile : (r : Refusal) → r ≡ profileRefusal profile → 0 < r .input → Decides profile question buffer (refusedBy r buffer)
-    unfolding Decides
-    decide-profile r e named =
-        unless-refused _ buffer _ r
-        (first-passes _ _ (answer-large buffer room) ∙ first-named r (profileRefusal profile) _ (profile-settled profile) e named) named
-
     module _ (p : sound ≡ profileRefusal profile) where
-      pub decide-question : (r : Refusal) → r ≡ questionRefusal (labelsIn profile) question → 0 < r .input
-          → Decides profile question buffer (refusedBy r buffer)
-      unfolding Decides
-      decide-question r e named =
-          unless-refused _ buffer _ r
-          (first-passes _ _ (answer-large buffer room) ∙ first-passes _ _ (sound-number p)
-          ∙ first-named r (questionRefusal (labelsIn profile) question) _ (question-settled (labelsIn profile) question) e named)
-          named
-
       module _ (q : sound ≡ questionRefusal (labelsIn profile) question) where
         passed : Refusals.firstRefusal (answerRefusal buffer ∷ profileRefusal profile ∷ questionRefusal (labelsIn profile) question ∷ []) .number ≡ 0
         passed = sound-more _ _ (answer-large buffer room) (sound-more _ _ (sound-number p) (sound-more _ _ (sound-number q) sound-end))

@@ -9,18 +9,17 @@ use lib.Dec.{T, leb}
 use lib.ListN.{length, take, drop, getD, getElem?, length-append, length-map, drop-of-length-le}
 use lib.Seq.{take-append-seam, drop-append-seam, drop-cons}
 use borrow.Author.Tests.{leb-true, leb-false, lt-ltb, le-ltb}
-use Rattle.meaning.specs.Limits.{inProfile, inProof}
+use Rattle.meaning.specs.Limits.{inProfile}
 use Rattle.meaning.specs.Lists.{Each, also}
 use Rattle.meaning.specs.Paths.{Label, norm}
 use Rattle.meaning.specs.Keys.{Key}
 use Rattle.meaning.specs.Rules.{Line, Epsilon, rule1, rule7, FollowsIn, shared, rule10, lineKeys, EndsWith, Accepted, ContextTarget}
 use Rattle.meaning.specs.Records.{noKey}
-use Rattle.meaning.specs.Refusals.{firstOf, keyTests}
 use Rattle.meaning.specs.Pattern.{qOf, tOf}
 use Rattle.theory_paths.specs.Bools.{Each-at}
 use Rattle.theory_paths.specs.Normal.{norm-of-normal}
-use Rattle.theory_paths.specs.Good.{GoodKey, tests-of-good, context-normal, target-length, paths-within}
-use Rattle.theory_derive.specs.Logic.{each-imp, found-mem, found-later, found-before}
+use Rattle.theory_paths.specs.Good.{GoodKey, context-normal, target-length, paths-within}
+use Rattle.theory_derive.specs.Logic.{found-mem, found-later, found-before}
 use Rattle.theory_derive.specs.Parts.{take-part, part-drop, join-norms, join-norm}
 use Rattle.theory_derive.specs.Spots.{Taken, Ends, atT, aboveSingle, Fires, FiresBy, Chain, begun, taken, chainOf, holdsEmpty, part}
 use Rattle.theory_derive.specs.Written
@@ -118,7 +117,7 @@ question labels asked g h l =
     chain : List ℕ
     chain = asked .context ++ asked .target
 
-getD-found : (keys : List Key) (n : ℕ) {k : Key} → getElem? keys n ≡ some k → getD keys n noKey ≡ k
+pub getD-found : (keys : List Key) (n : ℕ) {k : Key} → getElem? keys n ≡ some k → getD keys n noKey ≡ k
 getD-found [] n e = absurd (Option·none-ne-some _ e)
 getD-found (x ∷ keys) zero e = Option·some-injective _ _ e
 getD-found (x ∷ keys) (suc n) e = getD-found keys n e
@@ -223,14 +222,6 @@ module _ (labels : List Label) (keys : List Key) (asked : Key) (gk : Each (GoodK
   unfolding proofLines
   proof-fine {u} chain = also (first-fine u) (runs-fine (behind-first chain))
 
-  -- and so its tests give no refusal
-  pub proof-tests : {u : ℕ} {steps : List Taken} → Chain keys asked u steps
-      → Each (λ (l : Line). firstOf (keyTests labels inProof (l .key)) ≡ 0) (proofLines keys asked u steps)
-  proof-tests chain = each-imp (λ l h. tests-of-good labels inProof (l .key) (h .good)) (proof-fine chain)
-
   -- "At most 1 + 8·8 + 1 = 66 lines"
   pub proof-few : {u : ℕ} {steps : List Taken} → Chain keys asked u steps → length (proofLines keys asked u steps) ≤ 66
   proof-few chain = lines-end chain .few
-
-  pub proof-some : {u : ℕ} {steps : List Taken} → Chain keys asked u steps → 1 ≤ length (proofLines keys asked u steps)
-  proof-some chain = lines-end chain .any

@@ -2,12 +2,12 @@
 use Prim.Native.Nat.{ℕ, _+_, _≤_, _<_}
 use mathlib.Core.Path.{_≡_, refl, sym, ap, ap₂, subst, _∙_}
 use mathlib.Core.Bool.{false}
-use mathlib.Core.List.{List, [], _∷_, _++_, append-assoc, append-nil, List·Memᴰ, List·Memᴰ·head, List·Memᴰ·tail}
+use mathlib.Core.List.{List, [], _∷_, _++_, append-assoc, append-nil, List·Memᴰ}
 use native.Mathlib.Omega.{arith}
 use lib.Dec.{T}
 use lib.ListN.{length, drop, length-append}
 use Rattle.meaning.specs.Limits.{inProfile}
-use Rattle.meaning.specs.Lists.{Each, end, also, every}
+use Rattle.meaning.specs.Lists.{Each, every}
 use Rattle.meaning.specs.Paths.{Label, join, simple}
 use Rattle.meaning.specs.Keys.{Key}
 use Rattle.meaning.specs.Rules.{BeginsSome, withEmpty}
@@ -15,6 +15,7 @@ use Rattle.meaning.specs.Pattern.{tOf}
 use Rattle.theory_paths.specs.Bools.{Each-at, Each-of}
 use Rattle.theory_paths.specs.Simple.{simple-left, simple-right, join-simples}
 use Rattle.theory_paths.specs.Good.{GoodKey, key-path-simple, key-path-length, paths-some, paths-ascending}
+use Rattle.theory_paths.specs.Lists.{with-empty-path, with-empty-each}
 use Rattle.theory_derive.specs.Logic.{each-imp}
 use Rattle.theory_derive.specs.Sets.{insert, each-insert, ascending-one}
 use Rattle.theory_derive.specs.Spots.{chainOf, branchOf, lineOf, holdsEmpty, FiresBy}
@@ -22,21 +23,6 @@ use Rattle.theory_derive.specs.Written.{above, toSpot, belowSpot}
 use Rattle.theory_derive.specs.Lines.{OnLine, ReadOff, branch-among, begins-read, among-begins}
 use Rattle.theory_derive.specs.Landing.{landed-on, below-begins, below-whole}
 use Rattle.theory_derive.specs.Step.{above-spot, within, within-below, spot-below}
-
-pub each-with-empty : {Q : List ℕ → Type 0} (p : List ℕ) → Q [] → Q p → Each Q (withEmpty p)
-unfolding withEmpty
-each-with-empty [] e q = also e end
-each-with-empty (x ∷ p) e q = also e (also q end)
-
-pub empty-in : (p : List ℕ) → List·Memᴰ [] (withEmpty p)
-unfolding withEmpty
-empty-in [] = List·Memᴰ·head refl
-empty-in (x ∷ p) = List·Memᴰ·head refl
-
-pub itself-in : (p : List ℕ) → List·Memᴰ p (withEmpty p)
-unfolding withEmpty
-itself-in [] = List·Memᴰ·head refl
-itself-in (x ∷ p) = List·Memᴰ·tail (List·Memᴰ·head refl)
 
 module _ (labels : List Label) (asked s : Key) (i j k : ℕ) (g : GoodKey labels inProfile asked) (gs : GoodKey labels inProfile s)
     (f : FiresBy asked s i j k) where
@@ -86,10 +72,10 @@ module _ (labels : List Label) (asked s : Key) (i j k : ℕ) (g : GoodKey labels
     pub paths-begin : Each (BeginsSome (withEmpty (belowSpot asked j k))) (insert [] (s .paths))
     unfolding belowSpot
     paths-begin =
-        each-insert [] (record { rest = drop k (lineOf asked j); among = itself-in (drop k (lineOf asked j)) })
+        each-insert [] (record { rest = drop k (lineOf asked j); among = with-empty-path (drop k (lineOf asked j)) })
         (each-imp (λ p l. record {
           rest = drop (k + length p) (lineOf asked j);
-          among = subst (λ q. List·Memᴰ q (withEmpty (drop k (lineOf asked j)))) (sym (below-begins asked j k p l h)) (itself-in (drop k (lineOf asked j)));
+          among = subst (λ q. List·Memᴰ q (withEmpty (drop k (lineOf asked j)))) (sym (below-begins asked j k p l h)) (with-empty-path (drop k (lineOf asked j)));
         }) (f .landing))
 
     behind-read : (p r : List ℕ) → T (simple p) → length p ≤ 8 → p ++ r ≡ belowSpot asked j k → ReadOff asked (above asked i ++ toSpot asked i j k) p
@@ -125,4 +111,4 @@ module _ (labels : List Label) (asked s : Key) (i j k : ℕ) (g : GoodKey labels
     insert-read = each-insert [] none-read spot-read
 
     pub end-read : Each (ReadOff asked (above asked i ++ toSpot asked i j k)) (withEmpty (belowSpot asked j k))
-    end-read = each-with-empty (belowSpot asked j k) none-read below-read
+    end-read = with-empty-each (belowSpot asked j k) none-read below-read

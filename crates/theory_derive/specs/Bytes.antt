@@ -14,7 +14,8 @@ use Rattle.meaning.specs.Records.{noKey, wordBytes, recordBytes, pathBytes, key
 use Rattle.meaning.specs.Pattern.{tOf}
 use Rattle.theory_paths.specs.Bools.{Each-of}
 use Rattle.theory_paths.specs.Good.{GoodKey, context-length, target-length, key-path-length}
-use Rattle.theory_derive.specs.Logic.{each-imp, each-append, found-below}
+use Rattle.theory_paths.specs.Lists.{each-append}
+use Rattle.theory_derive.specs.Logic.{each-imp, found-below}
 use Rattle.theory_derive.specs.Spots.{Taken, Chain, begun, taken, holdsEmpty}
 use Rattle.theory_derive.specs.Written.{keyAt, oneLine, twoLine, opening, chainLines, emptyLines, endLines, stepLines, takenLines, linesFrom, firstLine, proofLines}
 use Rattle.theory_derive.specs.Runs.{FineLine}

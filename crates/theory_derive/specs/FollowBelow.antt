@@ -14,6 +14,7 @@ use Rattle.meaning.specs.Rules.{rule2, rule3, rule4, rule8, withEmpty}
 use Rattle.meaning.specs.Pattern.{tOf}
 use Rattle.theory_paths.specs.Bools.{Each-of}
 use Rattle.theory_paths.specs.Good.{GoodKey, paths-within, paths-ascending}
+use Rattle.theory_paths.specs.Lists.{with-empty-empty, with-empty-each}
 use Rattle.theory_derive.specs.Logic.{mem-some}
 use Rattle.theory_derive.specs.Parts.{join-norm}
 use Rattle.theory_derive.specs.Sets.{insert, insert-self, insert-old, insert-length, insert-ascending, ascending-empty}
@@ -101,7 +102,7 @@ module _ (labels : List Label) (keys : List Key) (asked s : Key) (number i j k :
           context = refl;
           target = refl;
           oldEmpty = insert-self [] (s .paths);
-          newEmpty = Branch.empty-in (belowSpot asked j k);
+          newEmpty = with-empty-empty (belowSpot asked j k);
           begins = Branch.paths-begin labels asked s i j k g gs f nk;
         }))
         (Follow.read-line labels keys asked s number i j k g gs f earlier at e 2 (at + 3) 65535 (above asked i) (toSpot asked i j k) (withEmpty (belowSpot asked j k))
@@ -123,12 +124,12 @@ module _ (labels : List Label) (keys : List Key) (asked s : Key) (number i j k :
         (Follow.above-short labels keys asked s number i j k g gs f earlier at e i) (Follow.to-t-short labels keys asked s number i j k g gs f earlier at e i)
         (with-empty-some (branchOf asked j)) (with-empty-few (branchOf asked j)) (ascending-empty (branchOf asked j))
         (at-t (withEmpty (branchOf asked j))
-        (Branch.each-with-empty (branchOf asked j) (Branch.empty-read labels asked s i j k g gs f) (Branch.branch-read labels asked s i j k g gs f))))
+        (with-empty-each (branchOf asked j) (Branch.empty-read labels asked s i j k g gs f) (Branch.branch-read labels asked s i j k g gs f))))
         (next
         (rule3 refl refl K5 (later (at + 5) 5 refl (s ∷ narrowed asked s i ∷ atSpot asked s i j k ∷ K3 ∷ K4 ∷ K5 ∷ []) K5 refl)
         (record {
           context = refl;
           target = refl;
-          includes = Branch.each-with-empty (branchOf asked j) (Step.empty-among asked holds) (branch-among asked j (f .isBranch));
+          includes = with-empty-each (branchOf asked j) (Step.empty-among asked holds) (branch-among asked j (f .isBranch));
         }))
         (record { good = last-fine .good; few = last-fine .few }) done)))

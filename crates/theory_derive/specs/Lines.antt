@@ -21,7 +21,8 @@ use Rattle.theory_paths.specs.Normal.{norm-normal}
 use Rattle.theory_paths.specs.Simple.{simple-left, simple-normal}
 use Rattle.theory_paths.specs.Valid.{mayStep, valid-left, valid-norm, valid-before}
 use Rattle.theory_paths.specs.Good.{GoodKey, context-symbols, target-symbols, key-path-symbols, key-path-simple, key-path-length, context-length, target-length, paths-some, paths-within, paths-ascending, valid-whole, valid-joined, context-normal, target-normal}
-use Rattle.theory_derive.specs.Logic.{each-imp, getD-mem}
+use Rattle.theory_paths.specs.Lists.{getD-mem}
+use Rattle.theory_derive.specs.Logic.{each-imp}
 use Rattle.theory_derive.specs.Parts.{every-norm, norm-length, join-norms-three}
 use Rattle.theory_derive.specs.Spots.{chainOf, branchOf, lineOf}
 use Rattle.theory_derive.specs.Written.{keyOf, keyAt}

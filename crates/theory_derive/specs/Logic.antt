@@ -1,15 +1,16 @@
 -- Small facts on numbers, on `Each` and on membership, of which the chapters below make use.
 use Prim.Native.Nat.{ℕ, zero, suc, _+_, _≤_, _<_}
-use mathlib.Core.Path.{_≡_, refl, sym, ap}
+use mathlib.Core.Path.{_≡_, sym, ap}
 use mathlib.Core.Logic.{_⊎_, inl, inr}
 use mathlib.Core.List.{List, [], _∷_, _++_, map, List·Memᴰ, List·Memᴰ·head, List·Memᴰ·tail}
 use mathlib.Core.Option.{some, Option·none-ne-some, Option·some-injective}
 use native.Mathlib.Omega.{arith}
 use lib.Dec.{T, ltb, ltb→lt}
-use lib.ListN.{length, getD, getElem?}
+use lib.ListN.{length, getElem?}
 use borrow.Author.Tests.{ltb-false}
 use Rattle.meaning.specs.Lists.{Each, end, also}
 use Rattle.theory_paths.specs.Bools.{T-cases, false-of}
+pub use Rattle.theory_paths.specs.Lists.{getD-mem}
 
 -- of two numbers the first is smaller, or not
 pub less-or : (m n : ℕ) → (m < n) ⊎ (n ≤ m)
@@ -28,10 +29,6 @@ module _ {A : Type 0} where
   each-both f end end = end
   each-both f (also {x} p e) (also q d) = also (f x p q) (each-both f e d)
 
-  pub each-append : {Q : A → Type 0} {xs : List A} (ys : List A) → Each Q xs → Each Q ys → Each Q (xs ++ ys)
-  each-append ys end f = f
-  each-append ys (also q e) f = also q (each-append ys e f)
-
   -- a list that has a member is not empty
   pub mem-some : {x : A} {xs : List A} → List·Memᴰ x xs → 1 ≤ length xs
   mem-some (List·Memᴰ·head e) = omega arith
@@ -47,11 +44,6 @@ module _ {A : Type 0} where
   found-below [] n e = absurd (Option·none-ne-some _ e)
   found-below (y ∷ xs) zero e = omega arith
   found-below (y ∷ xs) (suc n) e = let h = found-below xs n e in omega arith
-
-  pub getD-mem : (xs : List A) (n : ℕ) (d : A) → n < length xs → List·Memᴰ (getD xs n d) xs
-  getD-mem [] n d h = absurd (let z : n < 0 = h in omega arith)
-  getD-mem (y ∷ xs) zero d h = List·Memᴰ·head refl
-  getD-mem (y ∷ xs) (suc n) d h = List·Memᴰ·tail (getD-mem xs n d (let z : suc n < suc (length xs) = h in omega arith))
 
   -- what stands behind the first list, by its number there
   pub found-later : (xs ys : List A) (n m : ℕ) → n ≡ length xs + m → getElem? (xs ++ ys) n ≡ getElem? ys m

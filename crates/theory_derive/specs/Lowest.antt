@@ -20,7 +20,7 @@ use Rattle.theory_paths.specs.Good.{GoodLabels, GoodKey, paths-some}
 use Rattle.theory_derive.specs.Logic.{less-or}
 use Rattle.theory_derive.specs.Spots.{Taken, chainOf, branchOf, lineOf, Ends, atT, aboveSingle, Fires, Chain, begun, taken}
 use Rattle.theory_derive.specs.Lines.{chain-length, line-length}
-use Rattle.theory_derive.specs.Numbers.{spotNode, spot-chain, spot-branch}
+use Rattle.theory_derive.specs.Numbers.{spotNode, spot-chain}
 use Rattle.theory_derive.specs.Places.{IsSpot, Place, spot-label, spot-child, spot-parent, spot-above, place-of, spot-once}
 use Rattle.theory_derive.specs.Steps.{OnLines, fires-step, on-lines}
 use Rattle.theory_derive.specs.Accept.{turns}
@@ -75,21 +75,6 @@ module _ (second : Bool) (labels : List Label) (gl : GoodLabels labels) (keys : 
     (g : GoodKey labels inProfile asked) where
   abbrev single : ℕ → Bool
   single = singles second (classOf labels)
-
-  -- a key step of the pattern that ends on the chain is a step on the lines
-  pub step-fires : (s : Key) → List·Memᴰ s keys → (x y : ℕ) → OnLines asked s x y → y ≤ tOf asked
-      → (t : Taken) × Fires keys asked t × (x ≡ spotNode asked (t .branch) (t .spot)) × (t .node ≡ y)
-  step-fires s m x y o h =
-      let n = mem-number m in
-      let c : o .top ≤ tOf asked = ⊎-elim (λ l. absurd (omega (arith, o .to, spot-deep (o .branch) (o .top) l))) (λ l. l) (less-or (tOf asked) (o .top)) in (
-        record { key = n .number; node = o .top; branch = o .branch; spot = o .depth },
-        record { by = s; cited = n .found; firing = o .firing c },
-        o .from,
-        sym (o .to ∙ spot-chain asked (o .branch) (o .top) c),
-      )
-    where
-      spot-deep : (j k : ℕ) → tOf asked < k → tOf asked < spotNode asked j k
-      spot-deep j k l = rw (spot-branch asked j k l) (omega arith)
 
   -- a single label stands last on its line, so on the chain there is none above t
   single-last : (u j : ℕ) → u < tOf asked → IsSpot asked j (suc u) → T (single (pattern asked .label (spotNode asked j (suc u))))

@@ -59,7 +59,7 @@ over-first a m (suc r) h = absurd (omega arith)
 unfoldable pub nodeOf : ℕ → ℕ → Node
 nodeOf parent s = record { parent = parent; label = drawn s; value = 0 }
 
-run-length : (a n : ℕ) (p : List ℕ) → length (run a n p) ≡ length p
+pub run-length : (a n : ℕ) (p : List ℕ) → length (run a n p) ≡ length p
 unfolding run
 run-length a n [] = refl
 run-length a n (s ∷ p) = ap suc (run-length n (suc n) p)

@@ -18,7 +18,8 @@ use Rattle.meaning.specs.Pattern.{drawn, pattern, tOf}
 use Rattle.theory_paths.specs.Bools.{and-left, and-right, both, or-cases, or-left, or-right, eqb-of, every-each}
 use Rattle.theory_paths.specs.Valid.{mayStep}
 use Rattle.theory_paths.specs.Good.{GoodLabels, GoodKey, paths-some, paths-ascending}
-use Rattle.theory_derive.specs.Logic.{less-or, getD-mem}
+use Rattle.theory_paths.specs.Lists.{getD-mem}
+use Rattle.theory_derive.specs.Logic.{less-or}
 use Rattle.theory_derive.specs.Spots.{chainOf, branchOf, lineOf}
 use Rattle.theory_derive.specs.Sets.{before-itself}
 use Rattle.theory_derive.specs.Lines.{chain-length, before-steps}

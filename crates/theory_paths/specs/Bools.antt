@@ -40,6 +40,19 @@ pub and-right : (a b : Bool) → T (a && b) → T b
 and-right true b t = t
 and-right false b t = absurd t
 
+-- the same, of tests that are true
+pub and-first : (a b : Bool) → (a && b) ≡ true → a ≡ true
+and-first true b e = refl
+and-first false b e = e
+
+pub and-second : (a b : Bool) → (a && b) ≡ true → b ≡ true
+and-second true b e = e
+and-second false b e = absurd (subst (λ (x : Bool). T x) (sym e) tt)
+
+pub and-false : (a : Bool) → a && false ≡ false
+and-false true = refl
+and-false false = refl
+
 pub both : (a b : Bool) → T a → T b → T (a && b)
 both true b s t = t
 both false b s t = s
@@ -59,11 +72,6 @@ or-right false b t = t
 pub T-cases : (b : Bool) → T b ⊎ (T b → ⊥)
 T-cases true = inl tt
 T-cases false = inr (λ t. t)
-
--- the first test that a list of refusals gives as `not test` passed
-pub not-not : (b : Bool) → (T (not b) → ⊥) → T b
-not-not true f = tt
-not-not false f = f tt
 
 pub eqb-of : (m n : ℕ) → m ≡ n → T (eqb m n)
 eqb-of m n e = subst (λ (k : ℕ). T (eqb m k)) e (eqb-refl m)

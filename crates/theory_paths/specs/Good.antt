@@ -17,7 +17,6 @@ use Rattle.meaning.specs.Refusals
 use Rattle.meaning.specs.Refusals.{goodLabel, isSymbol, goodPath, goodSymbols, goodSet, keyTests, firstOf}
 use Rattle.theory_paths.specs.Bools.{and-left, and-right, or-cases, or-left, or-right, every-each, every-map, any-some, false-of, neqb-of}
 use Rattle.theory_paths.specs.Words.{member→word, word→member}
-use Rattle.theory_paths.specs.Simple.{simple-normal}
 use Rattle.theory_paths.specs.Valid.{valid-left, valid-right, valid-norm}
 use Rattle.theory_paths.specs.Normal.{join-three}
 use Rattle.theory_paths.specs.Inclusion.{inPath, avoids, noFiller, included-of-word, word-of-included}
@@ -224,9 +223,6 @@ module _ (labels : List Label) (limits : KeyLimits) (k : Key) (g : GoodKey label
 
   pub key-path-length : (P : List ℕ) → List·Memᴰ P (k .paths) → length P ≤ limits .pathSymbols
   key-path-length P m = path-length labels (limits .pathSymbols) P (key-path-good P m)
-
-  pub key-path-normal : (P : List ℕ) → List·Memᴰ P (k .paths) → T (normal P)
-  key-path-normal P m = simple-normal P (key-path-simple P m)
 
   -- the set: not empty, within its limit, in order
   pub paths-some : 1 ≤ length (k .paths)

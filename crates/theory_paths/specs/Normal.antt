@@ -5,7 +5,7 @@ use mathlib.Core.Path.{_≡_, refl, sym, ap, _∙_}
 use mathlib.Core.List.{List, [], _∷_, _++_, append-assoc, append-nil}
 use lib.Dec.{T}
 use Rattle.meaning.specs.Paths.{normal, norm, join}
-use Rattle.theory_paths.specs.Words.{Word, word-refl, word-append, word-split, word-trans}
+use Rattle.theory_paths.specs.Words.{Word, word-refl, word-append, word-trans}
 
 pub norm-normal : (P : List ℕ) → T (normal (norm P))
 unfolding norm normal
@@ -59,11 +59,6 @@ run-norm→ Q P h = word-trans (norm P) Q P h (norm-has-word P)
 pub run-norm← : (Q P : List ℕ) → Word Q P → Word Q (norm P)
 run-norm← Q P h = word-trans P Q (norm P) h (word-of-norm P)
 
--- Join
-pub join-normal : (P Q : List ℕ) → T (normal (join P Q))
-unfolding join
-join-normal P Q = norm-normal (P ++ Q)
-
 norm-zero : (Q : List ℕ) → norm (zero ∷ norm Q) ≡ norm (zero ∷ Q)
 unfolding norm
 norm-zero [] = refl
@@ -88,15 +83,15 @@ norm-append-right (zero ∷ []) Q = norm-zero Q
 norm-append-right (zero ∷ zero ∷ P) Q = norm-append-right (zero ∷ P) Q
 norm-append-right (zero ∷ suc a ∷ P) Q = ap (λ (l : List ℕ). zero ∷ suc a ∷ l) (norm-append-right P Q)
 
+-- a doubled any-path in the middle of a path is one
+pub norm-doubled : (x y : List ℕ) → norm ((x ++ (0 ∷ [])) ++ (0 ∷ y)) ≡ norm (x ++ (0 ∷ y))
+unfolding norm
+norm-doubled x y = ap norm (append-assoc x (0 ∷ []) (0 ∷ y)) ∙ sym (norm-append-right x (0 ∷ 0 ∷ y)) ∙ norm-append-right x (0 ∷ y)
+
 pub join-assoc : (P Q R : List ℕ) → join (join P Q) R ≡ join P (join Q R)
 unfolding join
 join-assoc P Q R =
     norm-append-left (P ++ Q) R ∙ ap norm (append-assoc P Q R) ∙ sym (norm-append-right P (Q ++ R))
-
--- norm of an append is the join of the norms
-pub norm-append : (P Q : List ℕ) → norm (P ++ Q) ≡ join (norm P) (norm Q)
-unfolding join
-norm-append P Q = sym (norm-append-left P Q) ∙ sym (norm-append-right (norm P) Q)
 
 -- the join of three is norm of the append of three
 pub join-three : (P Q R : List ℕ) → join (join P Q) R ≡ norm (P ++ Q ++ R)
@@ -115,18 +110,10 @@ pub word-join : (P Q u v : List ℕ) → Word P u → Word Q v → Word (join P 
 unfolding join
 word-join P Q u v h k = word-norm← (P ++ Q) (u ++ v) (word-append P Q u v h k)
 
-pub join-split : (P Q w : List ℕ) → Word (join P Q) w → (u : List ℕ) × (v : List ℕ) × (w ≡ u ++ v) × Word P u × Word Q v
-unfolding join
-join-split P Q w h = word-split P Q w (word-norm→ (P ++ Q) w h)
-
 -- the words of the join are those of the append
 pub word-join→ : (P Q w : List ℕ) → Word (join P Q) w → Word (P ++ Q) w
 unfolding join
 word-join→ P Q w h = word-norm→ (P ++ Q) w h
-
-pub word-join← : (P Q w : List ℕ) → Word (P ++ Q) w → Word (join P Q) w
-unfolding join
-word-join← P Q w h = word-norm← (P ++ Q) w h
 
 -- parts of a path in normal form
 pub normal-tail : (s : ℕ) (P : List ℕ) → T (normal (s ∷ P)) → T (normal P)
@@ -143,12 +130,3 @@ normal-left (suc a ∷ P) Q t = normal-left P Q t
 normal-left (zero ∷ []) Q t = tt
 normal-left (zero ∷ zero ∷ P) Q t = t
 normal-left (zero ∷ suc a ∷ P) Q t = normal-left P Q t
-
-pub normal-right : (P Q : List ℕ) → T (normal (P ++ Q)) → T (normal Q)
-normal-right [] Q t = t
-normal-right (s ∷ P) Q t = normal-right P Q (normal-tail s (P ++ Q) t)
-
--- where the append is in normal form it is the join
-pub join-of-normal : (P Q : List ℕ) → T (normal (P ++ Q)) → join P Q ≡ P ++ Q
-unfolding join
-join-of-normal P Q t = norm-of-normal (P ++ Q) t

@@ -6,7 +6,7 @@ use mathlib.Core.List.{List, [], _∷_, _++_}
 use lib.Dec.{T, eqb}
 use Rattle.meaning.specs.Paths.{normal, join, simple}
 use Rattle.theory_paths.specs.Bools.{every-append, every-left, every-right, every-head, every-tail}
-use Rattle.theory_paths.specs.Words.{Word, word-refl}
+use Rattle.theory_paths.specs.Words.{Word}
 use Rattle.theory_paths.specs.Normal.{norm-of-normal}
 
 pub simple-tail : (s : ℕ) (p : List ℕ) → T (simple (s ∷ p)) → T (simple p)
@@ -35,9 +35,6 @@ simple-word [] w t h = h
 simple-word (zero ∷ p) w t h = absurd (simple-head p t)
 simple-word (suc a ∷ p) w t h = h .1 ∙ ap (λ (l : List ℕ). suc a ∷ l) (simple-word p (h .0) (simple-tail (suc a) p t) (h .2))
 
-pub simple-self : (p : List ℕ) → Word p p
-simple-self p = word-refl p
-
 pub simple-normal : (p : List ℕ) → T (simple p) → T (normal p)
 unfolding normal
 simple-normal [] t = tt
@@ -55,20 +52,10 @@ normal-append-simple (zero ∷ []) (suc a ∷ p) s t = simple-normal p (simple-t
 normal-append-simple (zero ∷ zero ∷ P) p s t = absurd s
 normal-append-simple (zero ∷ suc a ∷ P) p s t = normal-append-simple P p s t
 
-pub normal-simple-append : (p P : List ℕ) → T (simple p) → T (normal P) → T (normal (p ++ P))
-unfolding normal
-normal-simple-append [] P s t = t
-normal-simple-append (zero ∷ p) P s t = absurd (simple-head p s)
-normal-simple-append (suc a ∷ p) P s t = normal-simple-append p P (simple-tail (suc a) p s) t
-
 -- the join with a simple path is the append
 pub join-simple : (P p : List ℕ) → T (normal P) → T (simple p) → join P p ≡ P ++ p
 unfolding join
 join-simple P p s t = norm-of-normal (P ++ p) (normal-append-simple P p s t)
-
-pub join-simple-left : (p P : List ℕ) → T (simple p) → T (normal P) → join p P ≡ p ++ P
-unfolding join
-join-simple-left p P s t = norm-of-normal (p ++ P) (normal-simple-append p P s t)
 
 pub join-simples : (p q : List ℕ) → T (simple p) → T (simple q) → join p q ≡ p ++ q
 join-simples p q s t = join-simple p q (simple-normal p s) t

@@ -5,7 +5,7 @@ use mathlib.Core.Bool.{Bool, true, _&&_, _||_}
 use mathlib.Core.List.{List, [], _∷_, _++_}
 use lib.Dec.{T, eqb}
 use Rattle.meaning.specs.Lists.{isEmpty, every}
-use Rattle.meaning.specs.Paths.{Class, isElement, norm, join, valid}
+use Rattle.meaning.specs.Paths.{Class, isElement, norm, valid}
 use Rattle.theory_paths.specs.Bools.{bool-eq, and-left, and-right, both, or-right}
 
 -- a symbol that may stand before another
@@ -60,13 +60,6 @@ module _ (κ : ℕ → Class) where
       valid-put r (P ++ Q) (or-right (isEmpty (P ++ Q)) (mayStep κ r) (and-left (mayStep κ r) (every (mayStep κ) P) s))
       (valid-append P Q (and-right (mayStep κ r) (every (mayStep κ) P) s) t)
 
-  pub valid-of-steps : (P : List ℕ) → T (every (mayStep κ) P) → T (valid κ P)
-  unfolding every valid
-  valid-of-steps [] s = tt
-  valid-of-steps (r ∷ P) s =
-      valid-put r P (or-right (isEmpty P) (mayStep κ r) (and-left (mayStep κ r) (every (mayStep κ) P) s))
-      (valid-of-steps P (and-right (mayStep κ r) (every (mayStep κ) P) s))
-
   -- before something, every symbol has to step on
   pub valid-split : (P : List ℕ) (s : ℕ) (Q : List ℕ) → valid κ (P ++ s ∷ Q) ≡ (every (mayStep κ) P && valid κ (s ∷ Q))
   valid-split P s Q =
@@ -93,24 +86,3 @@ module _ (κ : ℕ → Class) where
   valid-norm (zero ∷ []) = refl
   valid-norm (zero ∷ zero ∷ P) = valid-norm (zero ∷ P)
   valid-norm (zero ∷ suc a ∷ P) = valid-norm (suc a ∷ P)
-
-  pub valid-join : (P Q : List ℕ) → valid κ (join P Q) ≡ valid κ (P ++ Q)
-  unfolding join
-  valid-join P Q = valid-norm (P ++ Q)
-
-  pub valid-join→ : (P Q : List ℕ) → T (valid κ (join P Q)) → T (valid κ (P ++ Q))
-  valid-join→ P Q t = subst (λ (b : Bool). T b) (valid-join P Q) t
-
-  pub valid-join← : (P Q : List ℕ) → T (valid κ (P ++ Q)) → T (valid κ (join P Q))
-  valid-join← P Q t = subst (λ (b : Bool). T b) (sym (valid-join P Q)) t
-
--- two class functions that agree on the symbols of a path find it equally valid
-pub valid-agree : (κ ι : ℕ → Class) (good : ℕ → Bool) → ((s : ℕ) → T (good s) → mayStep κ s ≡ mayStep ι s)
-    → (P : List ℕ) → T (every good P) → valid κ P ≡ valid ι P
-unfolding valid every
-valid-agree κ ι good h [] t = refl
-valid-agree κ ι good h (s ∷ P) t =
-    valid-cons κ s P
-    ∙ ap₂ (λ (a b : Bool). (isEmpty P || a) && b) (h s (and-left (good s) (every good P) t))
-    (valid-agree κ ι good h P (and-right (good s) (every good P) t))
-    ∙ sym (valid-cons ι s P)

@@ -8,18 +8,14 @@ use mathlib.Core.List.{List, [], _∷_, _++_, append-assoc}
 use lib.Dec.{T, eqb, eqb→eq, eqb-refl}
 use Rattle.meaning.specs.Lists.{isEmpty}
 use Rattle.meaning.specs.Paths.{member, front, anyEnd}
-use Rattle.theory_paths.specs.Bools.{and-left, and-right, both, or-cases, or-left, or-right, bool-eq}
+use Rattle.theory_paths.specs.Bools.{and-left, and-right, both, or-cases, or-left, or-right}
+use Rattle.theory_paths.specs.Lists.{isEmpty-nil}
 
 -- The run w is a word of the path
 unfoldable pub Word : List ℕ → List ℕ → Type 0
 Word [] w = w ≡ []
 Word (zero ∷ p) w = (u : List ℕ) × (v : List ℕ) × (w ≡ u ++ v) × Word p v
 Word (suc a ∷ p) w = (v : List ℕ) × (w ≡ suc a ∷ v) × Word p v
-
-isEmpty-nil : (w : List ℕ) → T (isEmpty w) → w ≡ []
-unfolding isEmpty
-isEmpty-nil [] t = refl
-isEmpty-nil (x ∷ w) t = absurd t
 
 -- some end of the run satisfies f
 pub end-of : (f : List ℕ → Bool) (w : List ℕ) → T (anyEnd f w) → (u : List ℕ) × (v : List ℕ) × (w ≡ u ++ v) × T (f v)
@@ -101,11 +97,3 @@ word-trans P (zero ∷ Q) w h k =
 word-trans P (suc a ∷ Q) w h k =
     let r : Word (suc a ∷ h .0) w = subst (λ (l : List ℕ). Word l w) (h .1) k in
     (r .0, r .1, word-trans (h .0) Q (r .0) (h .2) (r .2))
-
--- the same, of the tests: every word of P is a word of Q, whatever its labels are
-pub member-trans : (P Q w : List ℕ) → T (member Q P) → T (member P w) → T (member Q w)
-member-trans P Q w h k = word→member Q w (word-trans P Q w (member→word Q P h) (member→word P w k))
-
--- the test and the relation are one
-pub member-eq : (P w : List ℕ) (b : Bool) → (T b → Word P w) → (Word P w → T b) → b ≡ member P w
-member-eq P w b f g = bool-eq b (member P w) (λ t. word→member P w (f t)) (λ t. g (member→word P w t))

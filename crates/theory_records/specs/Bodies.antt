@@ -1,19 +1,18 @@
 -- Body lookup: document 01, "give the body of record n of a checked profile", "(no body is empty)".
-use Prim.Native.Nat.{ℕ, zero, suc, _+_, _*_, _-_, _≤_, _<_}
+use Prim.Native.Nat.{ℕ, zero, suc, _+_, _-_, _≤_, _<_}
 use mathlib.Core.Path.{_≡_, refl, sym, subst, ap, _∙_}
-use mathlib.Core.Logic.{_⊎_, inl, inr, ⊎-elim}
+use mathlib.Core.Logic.{⊎-elim}
 use mathlib.Core.Bool.{Bool, true, false, cond}
 use borrow.Author.Tests.{eqb-true}
 use lib.Dec.{eqb}
-use mathlib.Core.List.{List, [], _∷_, _++_}
+use mathlib.Core.List.{List, []}
 use native.Mathlib.Omega.{arith}
 use native.Mathlib.Nat.{eq-or-lt-of-le, le-of-suc-le-suc, zero-add, suc-add}
-use lib.ListN.{length, drop, length-append}
-use Rattle.meaning.specs.Keys.{Key}
-use Rattle.meaning.specs.Records.{word, recordLength, recordKind, recordBody, keyIn, keyBody, pathBytes}
+use lib.ListN.{length, drop}
+use Rattle.meaning.specs.Records.{word, recordLength, recordKind, recordBody, keyBody, pathBytes}
 use Rattle.meaning.specs.Refusals.{firstOf, Profile, noProfile, profileTests, profileNext, whole, hasEdition, behindEdition, firstEntry, profileWalked, profileRefusal}
 use Rattle.meaning.specs.Operations.{recordsFrom, orNothing, bodyAt}
-use Rattle.theory_records.specs.Walks.{Stopped, walk-keeps}
+use Rattle.theory_records.specs.Walks.{walk-keeps}
 use Rattle.theory_records.specs.KeyBodies.{key-in-written}
 use Rattle.theory_records.specs.Encodings.{ends-label, ends-key, ends-edition}
 use Rattle.theory_records.specs.Tests.{both}

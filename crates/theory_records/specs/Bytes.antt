@@ -1,6 +1,6 @@
 -- Bytes, and numbers of two bytes: document 01, "two bytes, little-endian".
-use Prim.Native.Nat.{ℕ, zero, suc, _+_, _*_, _/_, _%_, _^_, _≤_, _<_}
-use mathlib.Core.Path.{_≡_, refl, sym, subst, ap, _∙_}
+use Prim.Native.Nat.{ℕ, zero, suc, _+_, _*_, _/_, _%_, _^_, _<_}
+use mathlib.Core.Path.{_≡_, refl, ap, _∙_}
 use mathlib.Core.List.{List, [], _∷_, _++_}
 use native.Mathlib.Omega.{arith}
 use native.Mathlib.Nat.{add-mul-mod-self-left, add-mul-div-left, mod-eq-of-lt, div-eq-of-lt, pow-zero, pow-suc}
@@ -50,13 +50,6 @@ wordBytes-word l i bs =
     let quotient : (getD l i 0 + 256 * getD l (i + 1) 0) / 256 ≡ getD l (i + 1) 0 =
     add-mul-div-left (getD l i 0) (getD l (i + 1) 0) (omega arith) ∙ (omega (arith, div-eq-of-lt a)) in
     rw (low, quotient, mod-eq-of-lt b)
-
-pub word-below : (l : List ℕ) (i : ℕ) → Bytes l → word l i < 65536
-unfolding word
-word-below l i bs =
-    let a : getD l i 0 < 256 = bytes-at bs i in
-    let b : getD l (i + 1) 0 < 256 = bytes-at bs (i + 1) in
-    omega arith
 
 -- Numbers of any width, once for two bytes and for four
 pub number-length : (width n : ℕ) → length (numberBytes width n) ≡ width

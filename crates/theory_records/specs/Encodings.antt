@@ -1,24 +1,22 @@
 -- Each kind of record: an accepted record's bytes are its encoding, and an encoding is read back.
-use Prim.Native.Nat.{ℕ, zero, suc, _+_, _*_, _/_, _%_, _-_, _^_, _≤_, _<_}
+use Prim.Native.Nat.{ℕ, _+_, _*_, _/_, _%_, _-_, _^_, _≤_, _<_}
 use mathlib.Core.Path.{_≡_, refl, sym, subst, ap, _∙_}
 use mathlib.Core.Logic.{_⊎_, inl, inr}
-use mathlib.Core.Bool.{Bool, true, false, cond, _&&_}
-use mathlib.Core.List.{List, [], _∷_, _++_, map, flatten}
+use mathlib.Core.Bool.{Bool, true, false, cond}
+use mathlib.Core.List.{List, [], _∷_, _++_}
 use native.Mathlib.Omega.{arith}
 use borrow.Author.Tests.{leb-true, le-leb, eqb-true, eq-eqb}
 use lib.Dec.{leb, eqb}
-use lib.ListN.{length, getD, take, drop, length-append, length-drop}
-use Rattle.meaning.specs.Lists.{Each, end, also}
+use lib.ListN.{length, getD, drop, length-append, length-drop}
 use Rattle.meaning.specs.Paths.{Label}
 use Rattle.meaning.specs.Trees.{Node}
-use Rattle.meaning.specs.Keys.{Key}
 use Rattle.meaning.specs.Rules.{Line}
-use Rattle.meaning.specs.Records.{word, wordBytes, recordLength, recordKind, recordBody, recordBytes, readLabel, labelBytes, keyIn, readKey, keyBody, keyBytes, readNode, nodeBytes, valueBytes, number, numberBytes, readLine, lineBytes, isSome, bodyEnds}
+use Rattle.meaning.specs.Records.{word, wordBytes, recordLength, recordKind, recordBody, recordBytes, readLabel, labelBytes, keyIn, readKey, keyBody, keyBytes, readNode, nodeBytes, valueBytes, number, numberBytes, readLine, isSome, bodyEnds}
 use Rattle.meaning.specs.Refusals.{whole}
-use Rattle.theory_records.specs.Tests.{both, and-true}
+use Rattle.theory_records.specs.Tests.{both}
 use Rattle.theory_records.specs.Bytes.{Bytes, bytes-drop, bytes-take, wordBytes-word, word-wordBytes, number-bytes, bytes-number}
-use Rattle.theory_records.specs.Heads.{Whole, record-written, written-length, written-kind, written-body, written-rest, bytes-length, body-length}
-use Rattle.theory_records.specs.KeyBodies.{key-in-written, key-in-read, key-is-read}
+use Rattle.theory_records.specs.Heads.{Whole, record-written, written-length, written-kind, written-body, bytes-length}
+use Rattle.theory_records.specs.KeyBodies.{key-in-written, key-in-read}
 
 -- What each kind says of the end of its body
 pub ends-label : (l : List ℕ) → Whole l → recordKind l ≡ 1 → 2 ≤ length (recordBody l)
@@ -95,15 +93,6 @@ pub key-record-written : (l : List ℕ) → Bytes l → Whole l → recordKind l
 unfolding keyBytes
 key-record-written l bs w k = record-is l bs w 2 k _ (key-in-written (recordBody l) (ends-key l w k))
 
--- five bytes and the rest
-front-five : (l : List ℕ) → 5 ≤ length l → getD l 0 0 ∷ getD l 1 0 ∷ getD l 2 0 ∷ getD l 3 0 ∷ getD l 4 0 ∷ drop 5 l ≡ l
-front-five [] h = absurd (omega arith)
-front-five (a ∷ []) h = absurd (omega arith)
-front-five (a ∷ b ∷ []) h = absurd (omega arith)
-front-five (a ∷ b ∷ c ∷ []) h = absurd (omega arith)
-front-five (a ∷ b ∷ c ∷ d ∷ []) h = absurd (omega arith)
-front-five (a ∷ b ∷ c ∷ d ∷ e ∷ l) h = refl
-
 -- Kinds 3 and 5
 front-three : (l : List ℕ) → 3 ≤ length l → getD l 0 0 ∷ getD l 1 0 ∷ getD l 2 0 ∷ drop 3 l ≡ l
 front-three [] h = absurd (omega arith)
@@ -121,19 +110,6 @@ pub node-written : {kind : ℕ} → IsNodeKind kind → (l : List ℕ) → Bytes
     → nodeBytes kind (readNode (recordBody l)) ++ drop (recordLength l) l ≡ l
 unfolding nodeBytes readNode
 node-written {kind} n l bs w k = record-is l bs w kind k _ (node-body (recordBody l) (valueBytes kind) (bytes-body l bs) (ends-node n l w k))
-
--- Kind 4
-line-body : (body : List ℕ) → Bytes body → 5 ≤ length body
-    → getD body 0 0 ∷ (wordBytes (word body 1) ++ (wordBytes (word body 3) ++ drop 5 body)) ≡ body
-line-body body bs h = rw (wordBytes-word body 1 bs, wordBytes-word body 3 bs) (front-five body h)
-
-pub line-written : (l : List ℕ) → Bytes l → Whole l → recordKind l ≡ 4
-    → lineBytes (readLine (recordBody l)) ++ drop (recordLength l) l ≡ l
-unfolding lineBytes readLine
-line-written l bs w k =
-    let ends = ends-line l w k in
-    record-is l bs w 4 k _
-    (rw (key-in-written (drop 5 (recordBody l)) (ends .1)) (line-body (recordBody l) (bytes-body l bs) (ends .0)))
 
 -- An encoding with a rest behind it is a whole record exactly where its kind takes the body
 pub written-whole : (kind : ℕ) (body rest : List ℕ) → 4 + length body < 65536 → kind < 65536

@@ -1,12 +1,11 @@
 -- The tests that every counted record begins with, 7, 1 and 2, as the code makes them, return by return.
-use Prim.Native.Nat.{ℕ, zero, suc, _+_, _-_, _≤_, _<_}
-use mathlib.Core.Path.{_≡_, refl, sym, ap, _∙_}
+use Prim.Native.Nat.{ℕ, _-_}
+use mathlib.Core.Path.{_≡_, sym, ap, _∙_}
 use mathlib.Core.Bool.{Bool, true, false, not}
-use mathlib.Core.List.{List, [], _∷_}
-use native.Mathlib.Omega.{arith}
+use mathlib.Core.List.{List, _∷_}
 use borrow.Author.Tests.{eqb-true, eq-eqb, ne-eqb, not-true, not-false}
 use lib.Dec.{eqb}
-use lib.ListN.{length, take, drop}
+use lib.ListN.{take, drop}
 use Rattle.meaning.specs.Records.{word, recordLength, recordKind, recordBody}
 use Rattle.meaning.specs.Refusals.{firstOf, tooMany, whole}
 use Rattle.theory_records.specs.Tests.{first-none}

@@ -1,14 +1,13 @@
 -- The head of a record: document 01, "length of the whole record (two bytes, little-endian), kind (two bytes), body".
-use Prim.Native.Nat.{ℕ, zero, suc, _+_, _*_, _-_, _≤_, _<_}
-use mathlib.Core.Path.{_≡_, refl, sym, subst, ap, _∙_}
-use mathlib.Core.Bool.{Bool, true, false, _&&_, not}
+use Prim.Native.Nat.{ℕ, suc, _+_, _-_, _≤_, _<_}
+use mathlib.Core.Path.{_≡_, sym, ap, _∙_}
+use mathlib.Core.Bool.{Bool, true, false, not}
 use mathlib.Core.List.{List, [], _∷_, _++_}
 use native.Mathlib.Omega.{arith}
 use borrow.Author.Tests.{leb-true, not-false}
 use borrow.Rule.Slice.PartAt.{part-to-end}
-use lib.ListN.{length, getD, take, drop, take-append-drop, length-take, length-drop}
-use lib.Seq.{length-take-le, take-append-seam, drop-append-seam}
-use Rattle.meaning.specs.Lists.{Each, end, also}
+use lib.ListN.{length, take, drop, take-append-drop, length-take, length-drop}
+use lib.Seq.{take-append-seam, drop-append-seam}
 use Rattle.meaning.specs.Records.{word, wordBytes, recordLength, recordKind, recordBody, recordBytes, bodyEnds}
 use Rattle.meaning.specs.Refusals.{whole}
 use Rattle.theory_records.specs.Tests.{both}

@@ -1,5 +1,5 @@
 -- What it says that one record is accepted, for each input: document 01, "in one record 7, then 1, 2, 3, 4, 5, 6, 8, 9".
-use Prim.Native.Nat.{ℕ, _-_, _≤_, _<_}
+use Prim.Native.Nat.{ℕ, _≤_, _<_}
 use mathlib.Core.Path.{_≡_, refl, _∙_}
 use mathlib.Core.Logic.{_⊎_, inl, inr}
 use mathlib.Core.Bool.{Bool, true, false, cond, _&&_, not}
@@ -17,6 +17,7 @@ use Rattle.meaning.specs.Rules.{Line}
 use Rattle.meaning.specs.Records.{recordKind, recordBody, readLabel, keyIn, readNode, readLine}
 use Rattle.meaning.specs.Refusals.{firstOf, tooMany, whole, goodLabel, keyTests, keyTwice, profileKeyTests, Profile, inProfileOrder, profileTests, questionTests, goodRoot, goodBelow, repeated, treeTests, lineTests}
 use Rattle.theory_paths.specs.Good.{GoodKey, good-of-tests}
+use Rattle.theory_paths.specs.Bools.{and-false}
 use Rattle.theory_records.specs.Tests.{both, either, never, first-none, first-fails, numbered, first-passes, first-both}
 use Rattle.theory_records.specs.Heads.{Whole, whole-says}
 
@@ -27,10 +28,6 @@ room-says kind limit count l h k e =
     let head : leb 4 (length l) ≡ true = le-leb 4 (length l) h in
     let same : eqb (recordKind l) kind ≡ true = eq-eqb (recordKind l) kind k in
     leb-false limit count (rw (head, same) at e)
-
-and-false : (a : Bool) → a && false ≡ false
-and-false true = refl
-and-false false = refl
 
 pub room-left : (kind limit count : ℕ) (l : List ℕ) → count < limit → tooMany kind limit count l ≡ false
 unfolding tooMany

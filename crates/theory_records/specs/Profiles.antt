@@ -1,7 +1,7 @@
 -- An accepted profile: its labels and keys are good, and its bytes are the encodings of its labels and then of its keys.
 use Prim.Native.Nat.{ℕ, suc, _+_, _≤_, _<_}
 use mathlib.Core.Path.{_≡_, refl, sym, subst, ap, ap₂, _∙_}
-use mathlib.Core.Logic.{_⊎_, ⊎-elim}
+use mathlib.Core.Logic.{⊎-elim}
 use mathlib.Core.Bool.{Bool, true, false, cond, not}
 use mathlib.Core.List.{List, [], _∷_, _++_, map, flatten, append-assoc, append-nil}
 use native.Mathlib.Omega.{arith}
@@ -14,7 +14,7 @@ use Rattle.meaning.specs.Paths.{Label}
 use Rattle.meaning.specs.Keys.{Key}
 use Rattle.meaning.specs.Records.{recordLength, recordKind, recordBody, recordBytes, readLabel, labelBytes, keyIn, keyBytes}
 use Rattle.meaning.specs.Refusals.{Refusal, firstRefusal, firstOf, goodLabel, keyTwice, Profile, noProfile, profileTests, profileNext, hasEdition, behindEdition, firstEntry, editionRefusal, profileWalked, profileIn, profileRefusal, oversize, whole, sound}
-use Rattle.meaning.specs.Operations.{labelsIn, keysIn}
+use Rattle.meaning.specs.Operations.{labelsIn, keysIn, entriesWritten, editionWritten, profileWritten}
 use Rattle.theory_paths.specs.Bools.{of-true}
 use Rattle.theory_paths.specs.Good.{GoodLabels, good-labels-none, good-labels-more, GoodKey}
 use Rattle.theory_records.specs.Walks.{walk-keeps}
@@ -23,16 +23,6 @@ use Rattle.theory_records.specs.Tests.{both}
 use Rattle.theory_records.specs.Heads.{whole-says}
 use Rattle.theory_records.specs.Encodings.{label-written, key-record-written, record-is, ends-edition}
 use Rattle.theory_records.specs.Judged.{LabelAccepted, KeyRecordAccepted, profile-accepted}
-
--- the bytes of a profile: "A profile is labels, numbers ascending, then keys", behind the edition's record
-unfoldable pub entryBytes : Profile → List ℕ
-entryBytes p = flatten (map labelBytes (p .labels)) ++ flatten (map keyBytes (p .keys))
-
-unfoldable pub editionBytes : Bool → List ℕ
-editionBytes second = cond second (recordBytes 6 (2 ∷ [])) []
-
-unfoldable pub profileBytes : Bool → Profile → List ℕ
-profileBytes second p = editionBytes second ++ entryBytes p
 
 -- read one after the other, each as Q asks of it beside those before it
 pub data OneByOne {A : Type 0} (Q : List A → A → Type 0) : List A → Type 0 where
@@ -133,7 +123,7 @@ good-at-stop bytes =
 -- What is written so far and what is left are the bytes
 pub record ProfileWritten (bytes : List ℕ) (n : ℕ) (p : Profile) (rest : List ℕ) : Type 0 where
   pub small : Bytes rest
-  pub are : entryBytes p ++ rest ≡ bytes
+  pub are : entriesWritten p ++ rest ≡ bytes
 
 one-label : (A x K r l bytes : List ℕ) → K ≡ [] → x ++ r ≡ l → (A ++ K) ++ l ≡ bytes → ((A ++ x) ++ K) ++ r ≡ bytes
 one-label A x K r l bytes k e w = sym (sym w ∙ (rw (k, append-nil A, append-nil (A ++ x), ← e) (sym (append-assoc A x r))))
@@ -143,7 +133,7 @@ one-key A x K r l bytes e w = sym (sym w ∙ (rw (← e) (simp append-assoc)))
 
 written-kept : (bytes : List ℕ) (n : ℕ) (p : Profile) (l : List ℕ) → ProfileWritten bytes n p l → 0 < length l → firstOf (profileTests p l) ≡ 0
     → ProfileWritten bytes (suc n) (profileNext p l) (drop (recordLength l) l)
-unfolding entryBytes flatten
+unfolding entriesWritten flatten
 written-kept bytes n p l g h e =
     let A : List ℕ = flatten (map labelBytes (p .labels)) in
     let K : List ℕ = flatten (map keyBytes (p .keys)) in
@@ -226,17 +216,17 @@ behind-small bytes small = go (hasEdition bytes)
     go false = small
 
 -- labels and keys, written back
-entries-written : (bytes : List ℕ) → Bytes bytes → profileWalked bytes .number ≡ 0 → entryBytes (profileIn bytes) ≡ behindEdition bytes
+entries-written : (bytes : List ℕ) → Bytes bytes → profileWalked bytes .number ≡ 0 → entriesWritten (profileIn bytes) ≡ behindEdition bytes
 unfolding profileIn profileWalked
 entries-written bytes small e =
     let w =
     walk-keeps profileTests profileNext (ProfileWritten (behindEdition bytes)) profile-long (written-kept (behindEdition bytes)) (firstEntry bytes)
-    noProfile (behindEdition bytes) (record { small = behind-small bytes small; are = unfold entryBytes flatten in refl }) in
-    sym (append-nil _) ∙ subst (λ (rest : List ℕ). entryBytes (profileIn bytes) ++ rest ≡ behindEdition bytes) (w .sound e) (w .held .are)
+    noProfile (behindEdition bytes) (record { small = behind-small bytes small; are = unfold entriesWritten flatten in refl }) in
+    sym (append-nil _) ∙ subst (λ (rest : List ℕ). entriesWritten (profileIn bytes) ++ rest ≡ behindEdition bytes) (w .sound e) (w .held .are)
 
 -- the edition's record, written back
-edition-written : (bytes : List ℕ) → Bytes bytes → ProfileAccepted bytes → editionBytes (hasEdition bytes) ++ behindEdition bytes ≡ bytes
-unfolding editionBytes behindEdition
+edition-written : (bytes : List ℕ) → Bytes bytes → ProfileAccepted bytes → editionWritten (hasEdition bytes) ++ behindEdition bytes ≡ bytes
+unfolding editionWritten behindEdition
 edition-written bytes small a = go (hasEdition bytes) refl
   where
     one-byte : (l : List ℕ) → length l ≡ 1 → getD l 0 0 ≡ 2 → 2 ∷ [] ≡ l
@@ -253,21 +243,21 @@ edition-written bytes small a = go (hasEdition bytes) refl
         record-is bytes small w 6 k (2 ∷ []) (one-byte (recordBody bytes) (ends-edition bytes w k) (a .edition e))
 
 -- "profiles read and written back are the same bytes"
-pub profile-written : (bytes : List ℕ) → Bytes bytes → ProfileAccepted bytes → profileBytes (hasEdition bytes) (profileIn bytes) ≡ bytes
-unfolding profileBytes
+pub profile-written : (bytes : List ℕ) → Bytes bytes → ProfileAccepted bytes → profileWritten (hasEdition bytes) (profileIn bytes) ≡ bytes
+unfolding profileWritten
 profile-written bytes small a =
-    ap (λ (l : List ℕ). editionBytes (hasEdition bytes) ++ l) (entries-written bytes small (a .walked)) ∙ edition-written bytes small a
+    ap (λ (l : List ℕ). editionWritten (hasEdition bytes) ++ l) (entries-written bytes small (a .walked)) ∙ edition-written bytes small a
 
 -- one encoding for each profile of an edition
 pub profile-unique : (bytes other : List ℕ) → Bytes bytes → Bytes other → profileRefusal bytes .number ≡ 0 → profileRefusal other .number ≡ 0
     → hasEdition bytes ≡ hasEdition other → profileIn bytes ≡ profileIn other → bytes ≡ other
 profile-unique bytes other small small′ e e′ edition same =
     sym (profile-written bytes small (profile-accepts bytes e))
-    ∙ (ap₂ profileBytes edition same ∙ profile-written other small′ (profile-accepts other e′))
+    ∙ (ap₂ profileWritten edition same ∙ profile-written other small′ (profile-accepts other e′))
 
 -- reading what is written gives the same profile
 pub profile-read-back : (bytes : List ℕ) → Bytes bytes → profileRefusal bytes .number ≡ 0
-    → profileIn (profileBytes (hasEdition bytes) (profileIn bytes)) ≡ profileIn bytes
+    → profileIn (profileWritten (hasEdition bytes) (profileIn bytes)) ≡ profileIn bytes
 profile-read-back bytes small e = ap profileIn (profile-written bytes small (profile-accepts bytes e))
 
 -- the same by the names that the operations use

@@ -1,25 +1,25 @@
 -- An accepted question, and the lines of a proof before the walk stops.
-use Prim.Native.Nat.{ℕ, zero, suc, _+_, _-_, _≤_, _<_}
+use Prim.Native.Nat.{ℕ, suc, _-_, _≤_, _<_}
 use mathlib.Core.Path.{_≡_, refl, sym, subst, ap, _∙_}
 use mathlib.Core.Logic.{_⊎_, inl, inr, ⊎-elim}
-use mathlib.Core.Bool.{Bool, true, false, cond}
-use mathlib.Core.List.{List, [], _∷_, _++_, map, flatten, append-nil, cons≢nil}
+use mathlib.Core.Bool.{cond}
+use mathlib.Core.List.{List, [], _∷_, _++_, append-nil, cons≢nil}
 use native.Mathlib.Omega.{arith}
 use lib.ListN.{length, drop, length-drop}
 use Rattle.meaning.specs.Limits.{inProfile, inProof}
-use Rattle.meaning.specs.Lists.{Each, end, also, isEmpty}
+use Rattle.meaning.specs.Lists.{Each, end, isEmpty}
 use Rattle.meaning.specs.Paths.{Label}
 use Rattle.meaning.specs.Keys.{Key}
 use Rattle.meaning.specs.Rules.{Line}
-use Rattle.meaning.specs.Records.{recordLength, recordKind, recordBody, keyIn, keyBytes, readLine, lineBytes}
-use Rattle.meaning.specs.Refusals.{Refusal, sound, Walked, firstOf, walk, questionTests, questionWalked, questionRefusal, questionIn, lineTests, proofWalked}
+use Rattle.meaning.specs.Records.{recordLength, recordKind, recordBody, keyIn, keyBytes, readLine}
+use Rattle.meaning.specs.Refusals.{sound, firstOf, questionTests, questionWalked, questionRefusal, questionIn, lineTests, proofWalked}
 use Rattle.theory_paths.specs.Good.{GoodKey}
-use Rattle.theory_records.specs.Walks.{Stopped, walk-keeps}
-use Rattle.theory_records.specs.Bytes.{Bytes, bytes-drop}
+use Rattle.theory_records.specs.Walks.{walk-keeps}
+use Rattle.theory_records.specs.Bytes.{Bytes}
 use Rattle.theory_records.specs.Heads.{Whole}
-use Rattle.theory_records.specs.Encodings.{key-record-written, line-written}
-use Rattle.theory_records.specs.Judged.{QuestionAccepted, question-accepted, LineAccepted, line-accepted}
-use Rattle.theory_records.specs.Profiles.{one-more, each-more, length-more, refusal-none}
+use Rattle.theory_records.specs.Encodings.{key-record-written}
+use Rattle.theory_records.specs.Judged.{QuestionAccepted, question-accepted, line-accepted}
+use Rattle.theory_records.specs.Profiles.{each-more, length-more, refusal-none}
 
 -- The question is still to be read, or it has been read
 pub record Unread (bytes : List ℕ) (read : List Key) (rest : List ℕ) : Type 0 where
@@ -131,32 +131,3 @@ lines-at-stop labels bytes =
     bytes
     (record { counted = refl; few = omega arith; good = end })
     .held
-
--- the bytes of the lines that were read are their encodings
-pub record LinesWritten (bytes : List ℕ) (n : ℕ) (lines : List Line) (rest : List ℕ) : Type 0 where
-  pub small : Bytes rest
-  pub are : flatten (map lineBytes lines) ++ rest ≡ bytes
-
-lines-written-kept : (labels : List Label) (bytes : List ℕ) (n : ℕ) (lines : List Line) (l : List ℕ) → LinesWritten bytes n lines l → 0 < length l
-    → firstOf (lineTests labels lines l) ≡ 0
-    → LinesWritten bytes (suc n) (lines ++ (readLine (recordBody l) ∷ [])) (drop (recordLength l) l)
-lines-written-kept labels bytes n lines l g h e =
-    let a = line-accepted labels lines l e in
-    record {
-      small = bytes-drop (recordLength l) (g .small);
-      are =
-          one-more lineBytes lines (readLine (recordBody l)) (drop (recordLength l) l) l bytes
-          (line-written l (g .small) (a .isWhole) (a .kind)) (g .are);
-    }
-
-pub lines-written : (labels : List Label) (bytes : List ℕ) → Bytes bytes
-    → Stopped (lineTests labels) (LinesWritten bytes) (proofWalked labels bytes)
-unfolding proofWalked
-lines-written labels bytes small =
-    walk-keeps (lineTests labels) (λ (lines : List Line) (l : List ℕ). lines ++ (readLine (recordBody l) ∷ [])) (LinesWritten bytes)
-    (lines-long labels)
-    (lines-written-kept labels bytes)
-    0
-    []
-    bytes
-    (record { small = small; are = unfold flatten in refl })

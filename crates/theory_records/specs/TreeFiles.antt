@@ -1,21 +1,21 @@
 -- An accepted tree file: as many bytes to a node as its kind says, what each node says, and that it is a tree.
 use Prim.Native.Nat.{ℕ, zero, suc, _+_, _*_, _-_, _≤_, _<_}
 use mathlib.Core.Path.{_≡_, refl, sym, subst, ap, _∙_}
-use mathlib.Core.Logic.{_⊎_, inl, inr, ⊎-elim, _≢_}
+use mathlib.Core.Logic.{inl, inr, ⊎-elim, _≢_}
 use mathlib.Core.Bool.{Bool, true, false, cond, not, _&&_, _||_}
-use mathlib.Core.List.{List, [], _∷_, _++_, map, flatten, append-assoc, append-nil}
+use mathlib.Core.List.{List, [], _∷_, _++_, map, flatten, append-nil}
 use native.Mathlib.Omega.{arith}
 use native.Mathlib.Nat.{eq-or-lt-of-le}
-use borrow.Author.Tests.{leb-true, ltb-true, eqb-true, eqb-false, not-false}
+use borrow.Author.Tests.{ltb-true, eqb-true}
 use native.Mathlib.Decide.{decLt}
-use lib.Dec.{T, leb, ltb, eqb}
-use lib.ListN.{length, getD, drop, take, length-append, length-drop, List·getD-append}
+use lib.Dec.{T, leb, eqb}
+use lib.ListN.{length, getD, drop, take, length-drop, List·getD-append}
 use lib.Seq.{getD-drop, getD-take, drop-drop, getD-append-seam}
-use Rattle.meaning.specs.Lists.{Each, end, also, isEmpty, any}
+use Rattle.meaning.specs.Lists.{isEmpty, any}
 use Rattle.meaning.specs.Paths.{Class, Label, element, attribute, text, isElement, classOf, singles, isLabel, declared}
-use Rattle.meaning.specs.Trees.{Table, Node, noNode, tableOf, Placed, IsTree, Child, Once}
+use Rattle.meaning.specs.Trees.{Node, noNode, tableOf, IsTree, Child, Once}
 use Rattle.meaning.specs.Records.{word, number, valueBytes, recordLength, recordKind, recordBody, readNode, nodeBytes}
-use Rattle.meaning.specs.Refusals.{Refusal, sound, firstOf, walk, goodRoot, goodBelow, repeated, nodeKindIn, treeTests, treeWalked, nodesIn, treeRefusal}
+use Rattle.meaning.specs.Refusals.{sound, firstOf, goodRoot, goodBelow, repeated, nodeKindIn, treeTests, treeWalked, nodesIn, treeRefusal}
 use Rattle.theory_paths.specs.Bools
 use Rattle.theory_paths.specs.Bools.{of-true, true-of, eqb-of, or-left, or-right}
 use Rattle.theory_paths.specs.Good.{GoodLabels, declared-between}
@@ -24,8 +24,8 @@ use Rattle.theory_records.specs.Walks.{Stopped, walk-keeps}
 use Rattle.theory_records.specs.Bytes.{Bytes, bytes-drop}
 use Rattle.theory_records.specs.Heads.{Whole, body-length}
 use Rattle.theory_records.specs.Encodings.{IsNodeKind, ends-node, node-written}
-use Rattle.theory_records.specs.Judged.{NodeAccepted, node-accepted}
-use Rattle.theory_records.specs.Profiles.{one-more, length-more, refusal-none, within-size}
+use Rattle.theory_records.specs.Judged.{node-accepted}
+use Rattle.theory_records.specs.Profiles.{one-more, length-more, refusal-none}
 
 drop-take : {A : Type 0} (m n : ℕ) (l : List A) → drop m (take n l) ≡ take (n - m) (drop m l)
 drop-take zero n l = ap (λ (k : ℕ). take k l) (let q : n ≡ n - 0 = omega arith in q)

@@ -5,7 +5,6 @@ use mathlib.Core.Bool.{Bool}
 use mathlib.Core.List.{List, [], _∷_}
 use native.Mathlib.Omega.{arith}
 use lib.ListN.{length, drop}
-use lib.Seq.{drop-nil}
 use Rattle.meaning.specs.Records.{recordLength}
 use Rattle.meaning.specs.Refusals.{Walked, firstOf, walk}
 

@@ -1,28 +1,21 @@
 -- What is written is read back: a walk over encodings accepts each and gives what was encoded.
-use Prim.Native.Nat.{ℕ, zero, suc, _+_, _*_, _^_, _≤_, _<_}
-use mathlib.Core.Path.{_≡_, sym, subst, ap, _∙_}
-use mathlib.Core.Bool.{Bool, true, false, cond, _&&_, _||_, not}
+use Prim.Native.Nat.{ℕ, suc, _+_, _^_, _<_}
+use mathlib.Core.Path.{_≡_, sym, ap, _∙_}
+use mathlib.Core.Bool.{Bool, true, false, cond}
 use mathlib.Core.List.{List, [], _∷_, _++_, map, flatten, append-assoc, append-nil}
 use native.Mathlib.Omega.{arith}
 use native.Mathlib.Nat.{add-zero, zero-add}
-use borrow.Author.Tests.{le-leb, lt-leb, le-ltb, eq-eqb}
-use lib.Dec.{leb, ltb, eqb}
 use lib.ListN.{length, drop, length-append}
 use lib.Seq.{append-snoc}
-use Rattle.meaning.specs.Limits.{inProfile, inProof}
-use Rattle.meaning.specs.Lists.{Each, end, also, isEmpty}
+use Rattle.meaning.specs.Lists.{isEmpty}
 use Rattle.meaning.specs.Paths.{Label, classOf, singles}
 use Rattle.meaning.specs.Trees.{Node}
-use Rattle.meaning.specs.Keys.{Key}
-use Rattle.meaning.specs.Rules.{Line}
-use Rattle.meaning.specs.Records.{wordBytes, recordLength, recordKind, recordBody, recordBytes, readNode, nodeBytes, valueBytes, numberBytes, keyIn, readKey, keyBody, keyBytes, isSome, readLine, lineBytes}
-use Rattle.meaning.specs.Refusals.{Refusal, Walked, firstOf, walk, whole, tooMany, keyTests, goodRoot, goodBelow, repeated, treeTests, treeWalked, nodesIn, treeRefusal, lineTests, proofWalked, questionTests, questionWalked, questionRefusal, questionIn}
-use Rattle.theory_paths.specs.Good.{GoodKey, tests-of-good}
+use Rattle.meaning.specs.Records.{wordBytes, recordLength, recordBody, recordBytes, readNode, nodeBytes, valueBytes, numberBytes}
+use Rattle.meaning.specs.Refusals.{Walked, firstOf, walk, goodRoot, goodBelow, repeated, treeTests}
 use Rattle.theory_records.specs.Walks.{walk-step, walk-end}
 use Rattle.theory_records.specs.Heads.{written-length, written-kind, written-body, written-rest, bytes-length}
-use Rattle.theory_records.specs.KeyBodies.{key-in-read, key-is-read}
-use Rattle.theory_records.specs.Judged.{node-passes, line-passes, question-passes}
-use Rattle.theory_records.specs.Encodings.{IsNodeKind, node-ends, kind-small, value-small, written-whole, node-read, line-read}
+use Rattle.theory_records.specs.Judged.{node-passes}
+use Rattle.theory_records.specs.Encodings.{IsNodeKind, node-ends, kind-small, value-small, written-whole, node-read}
 use Rattle.theory_records.specs.Bytes.{number-length}
 
 -- what a walk has to know of one encoding in front of a rest

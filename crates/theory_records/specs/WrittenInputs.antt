@@ -1,33 +1,32 @@
 -- Whole inputs that are written are accepted and read back: a tree, a question, a proof.
-use Prim.Native.Nat.{ℕ, zero, suc, _+_, _*_, _≤_, _<_}
+use Prim.Native.Nat.{ℕ, suc, _+_, _*_, _≤_, _<_}
 use mathlib.Core.Path.{_≡_, refl, sym, subst, ap, ap₂, _∙_}
 use mathlib.Core.Logic.{inl, inr, ⊎-elim}
 use Rattle.theory_paths.specs.Bools.{false-of, and-left, and-right, or-cases}
 use mathlib.Core.Bool.{Bool, true, false, cond, _&&_, _||_, not}
-use mathlib.Core.List.{List, [], _∷_, _++_, map, flatten, append-assoc, append-nil, List·Memᴰ, List·Memᴰ·head, List·Memᴰ·tail}
+use mathlib.Core.List.{List, [], _∷_, _++_, map, flatten, append-nil, List·Memᴰ, List·Memᴰ·head, List·Memᴰ·tail}
 use native.Mathlib.Omega.{arith}
 use native.Mathlib.Nat.{mul-le-mul-left, mul-pos}
 use borrow.Author.Tests.{le-leb, le-ltb, lt-ltb}
 use lib.Dec.{T, leb, ltb, eqb, eqb→eq}
-use lib.ListN.{length, getD, drop, length-append, List·getD-append}
+use lib.ListN.{length, getD, length-append, List·getD-append}
 use lib.Seq.{append-snoc, getD-append-seam}
 use Rattle.meaning.specs.Limits.{KeyLimits, inProfile, inProof}
-use Rattle.meaning.specs.Lists.{Each, end, also, isEmpty, any}
+use Rattle.meaning.specs.Lists.{Each, also, isEmpty, any}
 use Rattle.meaning.specs.Paths.{Label, isElement, classOf, singles, isLabel}
 use Rattle.meaning.specs.Trees.{Node, noNode}
 use Rattle.meaning.specs.Keys.{Key}
 use Rattle.meaning.specs.Rules.{Line}
-use Rattle.meaning.specs.Records.{wordBytes, recordLength, recordKind, recordBody, recordBytes, bodyEnds, readNode, nodeBytes, valueBytes, numberBytes, keyIn, readKey, pathBytes, keyBody, keyBytes, isSome, readLine, lineBytes}
-use Rattle.meaning.specs.Refusals.{Refusal, sound, firstRefusal, oversize, Walked, firstOf, walk, whole, keyTests, goodRoot, goodBelow, repeated, nodeKindIn, treeLimit, treeTests, treeWalked, nodesIn, treeRefusal, lineTests, proofWalked, questionTests, questionWalked, questionRefusal, questionIn}
+use Rattle.meaning.specs.Records.{wordBytes, recordBody, recordBytes, bodyEnds, nodeBytes, valueBytes, numberBytes, keyIn, pathBytes, keyBody, keyBytes, readLine, lineBytes}
+use Rattle.meaning.specs.Refusals.{sound, firstRefusal, oversize, Walked, walk, goodRoot, goodBelow, repeated, nodeKindIn, treeLimit, treeTests, treeWalked, nodesIn, treeRefusal, lineTests, proofWalked, questionTests, questionWalked, questionRefusal, questionIn}
 use Rattle.theory_paths.specs.Good.{GoodKey, tests-of-good, context-length, target-length, key-path-length, paths-within}
 use Rattle.theory_records.specs.Tests.{and-true}
-use Rattle.theory_records.specs.Walks.{walk-step, walk-end}
-use Rattle.theory_records.specs.Heads.{written-length, written-kind, written-body, written-rest, bytes-length}
+use Rattle.theory_records.specs.Heads.{written-kind, written-body}
 use Rattle.theory_records.specs.KeyBodies.{key-in-read, key-is-read}
 use Rattle.theory_records.specs.Encodings.{IsNodeKind, kind-small, written-whole, line-read}
 use Rattle.theory_records.specs.Bytes.{number-length}
 use Rattle.theory_records.specs.Judged.{some-empty, line-passes, question-passes}
-use Rattle.theory_records.specs.TreeFiles.{stride, stride-least, NodeBelow, NodesGood, NodesOnce}
+use Rattle.theory_records.specs.TreeFiles.{stride, stride-least, NodesGood, NodesOnce}
 use Rattle.theory_records.specs.Written.{Reads, AllRead, noMore, oneRead, atEnd, record-some, record-long, record-behind, NodeFits, nextNode, node-reads, walk-written-all}
 
 -- a node that is good among all of them is good beside those before it

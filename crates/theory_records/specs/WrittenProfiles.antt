@@ -9,11 +9,12 @@ use lib.Dec.{leb, ltb, eqb}
 use lib.ListN.{length, getD, drop}
 use lib.Seq.{append-snoc}
 use Rattle.meaning.specs.Limits.{inProfile}
-use Rattle.meaning.specs.Lists.{Each, end, every, any, same}
+use Rattle.meaning.specs.Lists.{Each, every, any, same}
 use Rattle.meaning.specs.Paths.{Label}
 use Rattle.meaning.specs.Keys.{Key}
 use Rattle.meaning.specs.Records.{recordLength, recordKind, recordBody, recordBytes, bodyEnds, readLabel, labelBytes, keyIn, keyBody, keyBytes}
 use Rattle.meaning.specs.Refusals.{sound, firstRefusal, oversize, Walked, walk, isLetter, inName, isName, goodLabel, keyTwice, Profile, noProfile, profileTests, profileNext, whole, hasEdition, behindEdition, firstEntry, editionRefusal, profileWalked, profileIn, profileRefusal}
+use Rattle.meaning.specs.Operations.{entriesWritten, editionWritten, profileWritten}
 use Rattle.theory_paths.specs.Good.{GoodKey, tests-of-good}
 use Rattle.theory_records.specs.Tests.{both, never}
 use Rattle.theory_records.specs.Walks.{walk-end}
@@ -21,7 +22,7 @@ use Rattle.theory_records.specs.Heads.{written-length, written-kind, wri
 use Rattle.theory_records.specs.KeyBodies.{key-in-read, key-is-read}
 use Rattle.theory_records.specs.Encodings.{written-whole, label-read}
 use Rattle.theory_records.specs.Judged.{profile-label-passes, profile-key-passes}
-use Rattle.theory_records.specs.Profiles.{entryBytes, editionBytes, profileBytes, LabelsRead, Different, noneYet, oneMore, each-less, length-more, next-label, next-key}
+use Rattle.theory_records.specs.Profiles.{LabelsRead, Different, noneYet, oneMore, each-less, length-more, next-label, next-key}
 use Rattle.theory_records.specs.Written.{Reads, AllRead, noMore, oneRead, addAll, walk-written, record-some, record-long, record-behind}
 use Rattle.theory_records.specs.WrittenInputs.{profile-body-size}
 
@@ -144,13 +145,13 @@ pub record ProfileFits (second : Bool) (p : Profile) : Type 0 where
   pub keys : Each (GoodKey (p .labels) inProfile) (p .keys)
   pub different : Different (p .keys)
   pub few : length (p .keys) ≤ 64
-  pub size : length (profileBytes second p) ≤ 16384
+  pub size : length (profileWritten second p) ≤ 16384
 
 -- labels and keys, from record n on
 entries-walked : (n : ℕ) (p : Profile) → LabelsRead (p .labels) → Each (GoodKey (p .labels) inProfile) (p .keys) → Different (p .keys)
     → length (p .keys) ≤ 64
-    → walk profileTests profileNext 0 n noProfile (entryBytes p) ≡ record { number = 0; at = n + length (p .labels) + length (p .keys); state = p }
-unfolding entryBytes
+    → walk profileTests profileNext 0 n noProfile (entriesWritten p) ≡ record { number = 0; at = n + length (p .labels) + length (p .keys); state = p }
+unfolding entriesWritten
 entries-walked n p labels keys different few =
     let K : List ℕ = flatten (map keyBytes (p .keys)) in
     let all : Profile = addAll profileTests profileNext addKey keyBytes (labelled (p .labels)) (p .keys) in
@@ -167,8 +168,8 @@ entries-walked n p labels keys different few =
     finish q r = λ i. record { number = 0; at = n + length (p .labels) + length (p .keys); state = r i }
 
 -- labels and keys do not begin with an edition's record
-entries-plain : (p : Profile) → LabelsRead (p .labels) → Each (GoodKey (p .labels) inProfile) (p .keys) → hasEdition (entryBytes p) ≡ false
-unfolding hasEdition entryBytes flatten labelBytes keyBytes
+entries-plain : (p : Profile) → LabelsRead (p .labels) → Each (GoodKey (p .labels) inProfile) (p .keys) → hasEdition (entriesWritten p) ≡ false
+unfolding hasEdition entriesWritten flatten labelBytes keyBytes
 entries-plain p labels keys = go (p .labels) (p .keys)
   where
     kind-of : (kind : ℕ) (body rest : List ℕ) → kind < 6 → whole (recordBytes kind body ++ rest) && eqb (recordKind (recordBytes kind body ++ rest)) 6 ≡ false
@@ -191,34 +192,34 @@ entries-plain p labels keys = go (p .labels) (p .keys)
 
 -- the edition's record in front
 pub profile-walked-written : (second : Bool) (p : Profile) → ProfileFits second p
-    → (hasEdition (profileBytes second p) ≡ second)
-    × (profileWalked (profileBytes second p) .number ≡ 0) × (profileWalked (profileBytes second p) .state ≡ p)
-unfolding profileWalked profileBytes editionBytes firstEntry behindEdition
+    → (hasEdition (profileWritten second p) ≡ second)
+    × (profileWalked (profileWritten second p) .number ≡ 0) × (profileWalked (profileWritten second p) .state ≡ p)
+unfolding profileWalked profileWritten editionWritten firstEntry behindEdition
 profile-walked-written false p f =
     let e = entries-plain p (f .labels) (f .keys) in
     let w = entries-walked 0 p (f .labels) (f .keys) (f .different) (f .few) in
     (e, rw e (ap (λ (x : Walked Profile). x .number) w), rw e (ap (λ (x : Walked Profile). x .state) w))
 profile-walked-written true p f =
-    let all : List ℕ = recordBytes 6 (2 ∷ []) ++ entryBytes p in
+    let all : List ℕ = recordBytes 6 (2 ∷ []) ++ entriesWritten p in
     let e : hasEdition all ≡ true =
     unfold hasEdition in
-    rw (written-whole 6 (2 ∷ []) (entryBytes p) (omega arith) (omega arith), written-kind 6 (2 ∷ []) (entryBytes p) (omega arith)) (unfold bodyEnds in refl) in
-    let b : drop (recordLength all) all ≡ entryBytes p =
-    ap (λ (k : ℕ). drop k all) (written-length 6 (2 ∷ []) (entryBytes p) (omega arith)) ∙ written-rest 6 (2 ∷ []) (entryBytes p) in
+    rw (written-whole 6 (2 ∷ []) (entriesWritten p) (omega arith) (omega arith), written-kind 6 (2 ∷ []) (entriesWritten p) (omega arith)) (unfold bodyEnds in refl) in
+    let b : drop (recordLength all) all ≡ entriesWritten p =
+    ap (λ (k : ℕ). drop k all) (written-length 6 (2 ∷ []) (entriesWritten p) (omega arith)) ∙ written-rest 6 (2 ∷ []) (entriesWritten p) in
     let w = entries-walked 1 p (f .labels) (f .keys) (f .different) (f .few) in
     (e, rw (e, b) (ap (λ (x : Walked Profile). x .number) w), rw (e, b) (ap (λ (x : Walked Profile). x .state) w))
 
-pub profile-written-sound : (second : Bool) (p : Profile) → ProfileFits second p → profileRefusal (profileBytes second p) ≡ sound
+pub profile-written-sound : (second : Bool) (p : Profile) → ProfileFits second p → profileRefusal (profileWritten second p) ≡ sound
 unfolding profileRefusal firstRefusal oversize editionRefusal
 profile-written-sound false p f =
     let w = profile-walked-written false p f in
-    rw (le-ltb 16384 (length (profileBytes false p)) (f .size), w .0, w .1)
+    rw (le-ltb 16384 (length (profileWritten false p)) (f .size), w .0, w .1)
 profile-written-sound true p f =
     let w = profile-walked-written true p f in
-    let byte : getD (recordBody (profileBytes true p)) 0 0 ≡ 2 =
-    unfold profileBytes editionBytes in ap (λ (l : List ℕ). getD l 0 0) (written-body 6 (2 ∷ []) (entryBytes p) (omega arith)) in
-    rw (le-ltb 16384 (length (profileBytes true p)) (f .size), w .0, byte, w .1)
+    let byte : getD (recordBody (profileWritten true p)) 0 0 ≡ 2 =
+    unfold profileWritten editionWritten in ap (λ (l : List ℕ). getD l 0 0) (written-body 6 (2 ∷ []) (entriesWritten p) (omega arith)) in
+    rw (le-ltb 16384 (length (profileWritten true p)) (f .size), w .0, byte, w .1)
 
-pub profile-in-written : (second : Bool) (p : Profile) → ProfileFits second p → profileIn (profileBytes second p) ≡ p
+pub profile-in-written : (second : Bool) (p : Profile) → ProfileFits second p → profileIn (profileWritten second p) ≡ p
 unfolding profileIn
 profile-in-written second p f = profile-walked-written second p f .2

@@ -1,6 +1,6 @@
 -- An accepted proof is true of every tree: each line's key is kept by a tree that keeps the profile.
 use Prim.Native.Nat.{ℕ, zero, suc, _-_}
-use mathlib.Core.Path.{_≡_, refl, sym, _∙_, ap, subst}
+use mathlib.Core.Path.{_≡_, sym, _∙_, ap, subst}
 use mathlib.Core.List.{List, [], _∷_, _++_, map}
 use mathlib.Core.Option.{some, Option·some-injective, Option·none-ne-some}
 use native.Mathlib.Omega.{arith}
@@ -16,6 +16,7 @@ use Rattle.meaning.specs.Keys.{Key, Keeps, Implied}
 use Rattle.meaning.specs.Rules.{Line, Follows, rule0, rule1, rule2, rule3, rule4, rule5, rule6, rule7, rule8, rule9, FollowsIn, shared, rule10, lineKeys, FollowsBelow, EndsWith, Accepted}
 use Rattle.theory_paths.specs.Words.{Word, member→word}
 use Rattle.theory_paths.specs.Good.{GoodLabels, GoodKey, included-good, context-symbols, target-symbols, valid-context, valid-target}
+use Rattle.theory_paths.specs.Lists.{map-append, each-append}
 use Rattle.theory_rules.specs.Single.{single-kept}
 use Rattle.theory_rules.specs.Rules.{epsilon-kept, superkey-kept, context-kept, target-kept, context-target-kept, subnodes-kept, interaction-kept, prefix-epsilon-kept, subnodes-epsilon-kept}
 
@@ -25,19 +26,11 @@ each-number {Q = Q} (also h r) zero {x} e = subst Q (Option·some-injective _ x 
 each-number (also h r) (suc n) e = each-number r n e
 each-number end n {x} e = absurd (Option·none-ne-some x e)
 
-pub each-append : {A : Type 0} {Q : A → Type 0} {xs ys : List A} → Each Q xs → Each Q ys → Each Q (xs ++ ys)
-each-append end s = s
-each-append (also h r) s = also h (each-append r s)
-
 -- the lines before number n + 1 are those before n, and line n
 pub take-next : {A : Type 0} (xs : List A) (n : ℕ) (x : A) → getElem? xs n ≡ some x → take (suc n) xs ≡ take n xs ++ (x ∷ [])
 take-next [] n x e = absurd (Option·none-ne-some x e)
 take-next (y ∷ ys) zero x e = ap (λ z. z ∷ []) (Option·some-injective y x e)
 take-next (y ∷ ys) (suc n) x e = ap (λ zs. y ∷ zs) (take-next ys n x e)
-
-pub map-append : {A B : Type 0} (f : A → B) (xs ys : List A) → map f (xs ++ ys) ≡ map f xs ++ map f ys
-map-append f [] ys = refl
-map-append f (x ∷ xs) ys = ap (λ zs. f x ∷ zs) (map-append f xs ys)
 
 module _ (labels : List Label) (good : GoodLabels labels) where
   -- inclusion of the contexts, and of the targets, of two well-formed keys
@@ -104,10 +97,10 @@ module _ (second : Bool) (labels : List Label) (good : GoodLabels labels) (κ : 
       subst (λ (ks : List Key). Each (Sound labels κ t) ks)
       (sym (ap (λ (ls : List Line). map (λ (l : Line). l .key) ls) (take-next lines n (here .line) (here .stands))
       ∙ map-append (λ (l : Line). l .key) (take n lines) (here .line ∷ [])))
-      (each-append before
+      (each-append (here .line .key ∷ []) before
       (also (record { good = gk; kept = line-kept-in (lineKeys (take n lines)) (here .line) before gk (here .follows) }) end))
 
--- Demand 2's other half (ARGUMENT 3 and 7): what an accepted proof ends with is implied
+-- What an accepted proof ends with is implied (ARGUMENT 3 and 7)
 pub accepted-implied : (second : Bool) (labels : List Label) (keys : List Key) (question : Key) (lines : List Line) → GoodLabels labels
     → Each (λ (l : Line). GoodKey labels inProof (l .key)) lines → Accepted (singles second (classOf labels)) labels keys question lines
     → Implied second labels keys question

@@ -2,4 +2,3 @@
 pub mod Rules
 pub mod Single
 pub mod Accepted
-pub mod Refuted

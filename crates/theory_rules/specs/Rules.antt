@@ -1,37 +1,22 @@
 -- Each rule on one tree: a witness against the conclusion is turned into one against a premise (ARGUMENT 3).
 use Prim.Native.Nat.{ℕ}
 use mathlib.Core.Path.{_≡_, refl, sym, _∙_, subst}
-use mathlib.Core.List.{List, [], _∷_, _++_, map, List·Memᴰ, List·Memᴰ·head, List·Memᴰ·tail}
+use mathlib.Core.List.{List, [], _++_, map, List·Memᴰ, List·Memᴰ·head}
 use native.Mathlib.Decide.{ℕ-discrete}
 use Rattle.meaning.specs.Lists.{Each}
 use Rattle.meaning.specs.Lists.Each.{end, also}
 use Rattle.meaning.specs.Paths.{Class, join}
 use Rattle.meaning.specs.Trees.{Table, IsTree, Reached, Equal}
 use Rattle.meaning.specs.Keys.{Breaks, Key, EqualPair, Keeps}
-use Rattle.meaning.specs.Rules.{Epsilon, PrefixEpsilon, Superkey, Subnodes, ContextTarget, withEmpty, SubnodesEpsilon, Interaction}
+use Rattle.meaning.specs.Rules.{Epsilon, PrefixEpsilon, Superkey, Subnodes, ContextTarget, SubnodesEpsilon, Interaction}
 use Rattle.theory_paths.specs.Bools.{Each-at, Each-of}
 use Rattle.theory_paths.specs.Words.{Word}
+use Rattle.theory_paths.specs.Lists.{with-empty-empty, with-empty-path, with-empty-each}
 use Rattle.theory_trees.specs.Reach.{reached-empty, reached-self, reached-append, reached-split, reached-append-split, reached-wider, reached-rigid, equal-reached}
 
 -- a node reached by one path is reached by the path that is the same
 by-same : {t : Table} {v w : ℕ} {P Q : List ℕ} → P ≡ Q → Reached t v P w → Reached t v Q w
 by-same {t} {v} {w} e r = subst (λ (P : List ℕ). Reached t v P w) e r
-
--- the set {empty, p} has the empty path, p, and no other
-pub with-empty-empty : (p : List ℕ) → List·Memᴰ [] (withEmpty p)
-unfolding withEmpty
-with-empty-empty [] = List·Memᴰ·head refl
-with-empty-empty (s ∷ p) = List·Memᴰ·head refl
-
-pub with-empty-path : (p : List ℕ) → List·Memᴰ p (withEmpty p)
-unfolding withEmpty
-with-empty-path [] = List·Memᴰ·head refl
-with-empty-path (s ∷ p) = List·Memᴰ·tail (List·Memᴰ·head refl)
-
-pub with-empty-each : {Q : List ℕ → Type 0} (p : List ℕ) → Q [] → Q p → Each Q (withEmpty p)
-unfolding withEmpty
-with-empty-each [] h k = also h end
-with-empty-each (s ∷ p) h k = also h (also k end)
 
 module _ (κ : ℕ → Class) (t : Table) where
   -- a pair for each path of a set is one for each path of the set that is the same

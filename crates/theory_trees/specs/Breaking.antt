@@ -11,7 +11,7 @@ use borrow.Author.Tests.{eqb-false, ne-eqb}
 use Rattle.meaning.specs.Lists.{Each, every, any, keep, numbers}
 use Rattle.meaning.specs.Paths.{Class}
 use Rattle.meaning.specs.Trees.{Table, IsTree, Reached}
-use Rattle.meaning.specs.Keys.{Key, EqualPair, Breaks, Keeps}
+use Rattle.meaning.specs.Keys.{Key, EqualPair, Breaks}
 use Rattle.theory_paths.specs.Bools.{every-each, each-every, any-some, some-any, Each-at, Each-of}
 use Rattle.theory_trees.specs.Below.{ParentsSmaller, tree-smaller}
 use Rattle.theory_trees.specs.Children.{keep-mem, mem-keep, mem-numbers}
@@ -112,7 +112,3 @@ module _ {κ : ℕ → Class} {t : Table} where
 
   pub breaks? : IsTree κ t → (key : Key) → Dec (Breaks κ t key)
   breaks? tree key = map-dec (breaks-sound key) (breaks-complete tree key) (T-dec (breaks κ t key))
-
-  pub keeps-of-test : IsTree κ t → (key : Key) → (T (breaks κ t key) → ⊥) → Keeps κ t key
-  unfolding Keeps
-  keeps-of-test tree key h w = h (breaks-complete tree key w)

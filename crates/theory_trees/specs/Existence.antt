@@ -1,7 +1,7 @@
 -- A tree that breaks a key has a first witness: everything about it can be decided, and numbers below a bound have a least one.
 use Prim.Native.Nat.{ℕ, zero, suc, _+_, _<_, _≤_}
-use mathlib.Core.Path.{_≡_, refl, sym, _∙_, ap, subst}
-use mathlib.Core.Logic.{_≢_, _⊎_, inl, inr}
+use mathlib.Core.Path.{_≡_, sym, subst}
+use mathlib.Core.Logic.{_⊎_, inl, inr}
 use mathlib.Core.List.{List, [], _∷_}
 use native.Mathlib.Omega.{arith}
 use native.Mathlib.Decide.{decLt, ℕ-discrete, map-dec}
@@ -16,7 +16,7 @@ use Rattle.theory_trees.specs.Climb.{reached?, T-dec}
 use Rattle.theory_trees.specs.Agreeing.{swap-pairs}
 use Rattle.theory_trees.specs.Reach.{reached-inside}
 use Rattle.theory_trees.specs.Sameness.{equal?}
-use Rattle.theory_trees.specs.Witness.{FirstPair, FirstPairs, noPath, onePath, FirstTargets, firsts-first}
+use Rattle.theory_trees.specs.Witness.{FirstPair, FirstPairs, noPath, onePath, firsts-first}
 
 -- the least number below a bound of which something decidable holds
 pub record LeastOf (P : ℕ → Type 0) : Type 0 where

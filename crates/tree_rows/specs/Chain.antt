@@ -5,8 +5,8 @@ use mathlib.Core.List.{List}
 use lib.ListN.{length, getD, set}
 use native.Mathlib.Omega.{arith}
 use Rattle.meaning.specs.Trees.{Table}
-use Rattle.tree_nodes.specs.Links.{LeastChild, Nexts, LinkedFrom, linked-none, linked-step, linked-all}
-use Rattle.tree_nodes.specs.Seek.{left, left-falls}
+use Rattle.tree_table.specs.Links.{LeastChild, Nexts, LinkedFrom, linked-none, linked-step, linked-all}
+use Rattle.tree_table.specs.Seek.{left, left-falls}
 
 unfoldable pub byClass : ℕ → List ℕ → Table
 byClass count class = record { size = count; parent = λ x. getD class x 0; label = λ x. 0; value = λ x. 0 }

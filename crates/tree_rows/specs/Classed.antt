@@ -8,7 +8,7 @@ use lib.ListN.{length, getD}
 use Rattle.meaning.specs.Paths.{Class}
 use Rattle.meaning.specs.Trees.{Table, Equal}
 use Rattle.theory_trees.specs.Laws.{equal-symmetric, equal-transitive}
-use Rattle.tree_nodes.specs.Decides.{Decides}
+use Rattle.tree_table.specs.Decides.{Decides}
 
 pub record Classed (κ : ℕ → Class) (t : Table) (class : List ℕ) : Type 0 where
   pub inside : (x : ℕ) → x < t .size → getD class x 0 < t .size

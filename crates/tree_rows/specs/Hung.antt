@@ -5,7 +5,7 @@ use mathlib.Core.Path.{_≡_}
 use mathlib.Core.List.{List, []}
 use lib.ListN.{length, getD}
 use Rattle.meaning.specs.Trees.{Table, Down}
-use Rattle.tree_nodes.specs.Links.{LeastChild}
+use Rattle.tree_table.specs.Links.{LeastChild}
 use Rattle.tree_rows.specs.Rows.{row}
 use Rattle.tree_rows.specs.Chain.{byClass}
 

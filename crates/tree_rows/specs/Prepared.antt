@@ -3,8 +3,8 @@ use Prim.Native.Nat.{ℕ, _<_}
 use mathlib.Core.Path.{_≡_}
 use mathlib.Core.List.{List}
 use lib.ListN.{getD}
-use Rattle.tree_nodes.specs.FileTable.{fileTable, classBy, TreeBytes}
-use Rattle.tree_nodes.specs.Links.{Linked, Nexts}
+use Rattle.tree_table.specs.FileTable.{fileTable, classBy, TreeBytes}
+use Rattle.tree_table.specs.Links.{Linked, Nexts}
 use Rattle.tree_rows.specs.Rows.{row}
 use Rattle.tree_rows.specs.Classed.{Classed, Smallest}
 use Rattle.tree_rows.specs.Chain.{byClass}

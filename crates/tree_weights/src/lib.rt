@@ -2,19 +2,19 @@
 // order of those that are no attributes, mixed into 32 bits, such that value-equal nodes have equal weights: attributes count in whatever order.
 // The low part of a weight counts the nodes from there down, exactly, since a sum keeps it and no node but the root has 4,096. So nodes of one
 // weight never lie below each other, and all calls of `node_eq` on them together visit at most the square of the nodes, whatever else collides.
-use shapes::classes::is_attribute;
-use shapes::classes::is_element;
-use tree_nodes::fields::NODES;
-use tree_nodes::fields::label;
-use tree_nodes::fields::parent;
-use tree_nodes::fields::size;
-use tree_nodes::fields::value;
-use tree_nodes::tables::at;
-use tree_nodes::tables::blank;
+use read_record::classes::is_attribute;
+use read_record::classes::is_element;
+use read_record::limits::TREE_NODES;
+use tree_table::fields::label;
+use tree_table::fields::parent;
+use tree_table::fields::size;
+use tree_table::fields::value;
+use tree_table::tables::at;
+use tree_table::tables::blank;
 ghost use mathlib.Core.Path.{_≡_};
 ghost use Prim.Native.Nat.{ℕ, _<_};
 ghost use lib.ListN.{length, getD};
-ghost use Rattle.tree_nodes.specs.FileTable.{fileTable, classBy, TreeBytes};
+ghost use Rattle.tree_table.specs.FileTable.{fileTable, classBy, TreeBytes};
 ghost use Rattle.tree_weights.specs.Sums.{unlessAttribute};
 ghost use Rattle.tree_weights.specs.Weights.{Weighed, mix, weightOf};
 
@@ -27,7 +27,7 @@ const SPREAD: usize = 40503;
 
 const TURN: usize = 31;
 
-fn wide(n: u32) -> usize
+pub fn wide(n: u32) -> usize
     ensures { λ r. ⌜ (r ≡ n) × (r < 4294967296) ⌝ }
 {
     n as usize
@@ -39,7 +39,7 @@ fn mixed(tag: usize, worth: usize, sum: usize) -> usize
 {
     let joined = (tag * VALUES + worth + sum) % RANGE;
     let spread = joined * (joined % VALUES + SPREAD) % RANGE;
-    spread / NODES * NODES + (sum + 1) % NODES
+    spread / TREE_NODES * TREE_NODES + (sum + 1) % TREE_NODES
 }
 
 fn node_weight(tree: &[u8], classes: &[u8; 256], x: usize, sum: usize, order: usize) -> usize
@@ -61,16 +61,16 @@ fn with_child(tree: &[u8], classes: &[u8; 256], x: usize, own: usize, order: usi
     if is_attribute(classes, label(tree, x)) {
         return order;
     }
-    (order * TURN + own / NODES) % VALUES
+    (order * TURN + own / TREE_NODES) % VALUES
 }
 
-fn no_weights() -> [u32; 4096]
+fn no_weights() -> [u32; TREE_NODES]
     ensures { λ r. ⌜ (length r ≡ 4096) × ((i : ℕ) → getD r i 0 ≡ 0) ⌝ }
 {
-    [0u32; 4096]
+    [0u32; TREE_NODES]
 }
 
-pub fn weigh(tree: &[u8], classes: &[u8; 256]) -> [u32; 4096]
+pub fn weigh(tree: &[u8], classes: &[u8; 256]) -> [u32; TREE_NODES]
     requires { ⌜ TreeBytes (now classes) (now tree) ⌝ }
     ensures { λ r. ⌜ Weighed (classBy (now (classes .entry))) (fileTable (now (tree .entry))) r ⌝ }
 {

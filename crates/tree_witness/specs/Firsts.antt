@@ -15,12 +15,12 @@ use Rattle.theory_trees.specs.Below.{down-inside}
 use Rattle.theory_trees.specs.Agreeing.{pair-below}
 use Rattle.theory_trees.specs.Reach.{reached-run, reached-down}
 use Rattle.theory_trees.specs.Witness.{FirstPair}
-use Rattle.tree_nodes.specs.Links.{LeastChild}
+use Rattle.tree_table.specs.Links.{LeastChild}
 use Rattle.tree_rows.specs.Classed.{Classed}
 use Rattle.tree_rows.specs.Chain.{byClass}
 use Rattle.tree_rows.specs.Hung.{Hung}
-use Rattle.key_pairs.specs.Along.{Along, along-start, along-next}
-use Rattle.key_pairs.specs.Marks.{next-link, hung-down}
+use Rattle.tree_pairs.specs.Along.{Along, along-start, along-next}
+use Rattle.tree_pairs.specs.Marks.{next-link, hung-down}
 
 -- y is the first node of class c that the path reaches from b
 pub record FirstOf (t : Table) (class path : List ℕ) (b c y : ℕ) : Type 0 where

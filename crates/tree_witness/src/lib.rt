@@ -1,28 +1,27 @@
 // The first witness against a key (02, request 9): the first context and targets are known, and each key path has its first value-equal pair below
 // them. The nodes that a key path reaches from a node stand in a list that ascends, so the first of a class is the least.
-use answers::Witness;
-use shapes::keys::count;
-use tree_nodes::tables::at;
-use tree_nodes::tables::blank;
+use op_answers::Witness;
+use read_record::keys::count;
 use tree_rows::hung::HUNG;
 use tree_rows::hung::first_hung;
 use tree_rows::hung::next_hung;
 use tree_rows::rows::ROWS;
 use tree_rows::rows::class_of;
+use tree_table::tables::at;
+use tree_table::tables::blank;
 ghost use mathlib.Core.Path.{_≡_};
 ghost use mathlib.Core.List.{[]};
 ghost use Prim.Native.Nat.{ℕ, _<_};
 ghost use lib.ListN.{length, getD};
 ghost use Rattle.meaning.specs.Lists.{Each};
-ghost use Rattle.meaning.specs.Keys.{EqualPair, FirstWitness};
+ghost use Rattle.meaning.specs.Keys.{EqualPair};
 ghost use Rattle.meaning.specs.Records.{keyIn};
 ghost use Rattle.theory_trees.specs.Witness.{FirstPair, FirstTargets};
-ghost use Rattle.answers.specs.Cases.{numbersOf};
-ghost use Rattle.tree_nodes.specs.FileTable.{fileTable, classBy};
+ghost use Rattle.tree_table.specs.FileTable.{fileTable, classBy};
 ghost use Rattle.tree_rows.specs.Rows.{row};
-ghost use Rattle.key_pairs.specs.Marks.{Hanging};
+ghost use Rattle.tree_pairs.specs.Marks.{Hanging};
 ghost use Rattle.tree_witness.specs.Firsts.{Firsts};
-ghost use Rattle.tree_witness.specs.Pairs.{PairAt};
+ghost use Rattle.tree_witness.specs.Pairs.{PairAt, FirstShown};
 
 // "one value-equal pair": x lies below the smaller target, y below the larger.
 struct Pair {
@@ -119,7 +118,7 @@ pub fn witness(
     second: usize,
 ) -> Witness
     requires { ⌜ Hanging (now classes) (now tree) (now rows) (now hung) (now body) × FirstTargets (classBy (now classes)) (fileTable (now tree)) (keyIn (now body)) context first second ⌝ }
-    ensures { λ r. ⌜ FirstWitness (classBy (now (classes .entry))) (fileTable (now (tree .entry))) (keyIn (now (body .entry))) (numbersOf r) ⌝ }
+    ensures { λ r. ⌜ FirstShown (classBy (now (classes .entry))) (fileTable (now (tree .entry))) (keyIn (now (body .entry))) r ⌝ }
 {
     let one = pair_at(tree, classes, rows, hung, body, 0, first, second);
     let two = pair_at(tree, classes, rows, hung, body, 1, first, second);

@@ -6,9 +6,9 @@ use Rattle.list.proofs.print_block.Statement.{statement}
 use Rattle.list.proofs.print_block.Tie as tie
 use Rattle.list.proofs.print_block.Reads as reads
 use Rattle.list.proofs.print_block.Lts as lts
-use Rattle.files.proofs.print.Reads as print-reads
-use Rattle.files.proofs.print_refusal.Reads as print-refusal-reads
-use Rattle.listings.proofs.list_block.Reads as list-block-reads
+use Rattle.program_files.proofs.print.Reads as print-reads
+use Rattle.program_files.proofs.print_refusal.Reads as print-refusal-reads
+use Rattle.op_list.proofs.list_block.Reads as list-block-reads
 
 -- src/main.rt:23:52
 slice-aggregate-list-block : tie.Need-slice-aggregate-list-block

@@ -1,6 +1,5 @@
 use Prim.Native.Nat.{_-_}
 use native.Mathlib.Omega.{arith}
-use borrow.Author.Needs.{needs}
 use Rattle.list.proofs.print_blocks.Statement.{statement}
 use Rattle.list.proofs.print_blocks.Tie as tie
 use Rattle.list.proofs.print_blocks.Reads as reads

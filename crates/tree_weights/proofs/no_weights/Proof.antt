@@ -1,4 +1,4 @@
-use Rattle.tree_nodes.specs.Zeros.{zeros-at}
+use Rattle.tree_table.specs.Zeros.{zeros-at}
 use mathlib.Core.Path.{refl}
 use Rattle.tree_weights.proofs.no_weights.Statement.{statement}
 use Rattle.tree_weights.proofs.no_weights.Tie as tie

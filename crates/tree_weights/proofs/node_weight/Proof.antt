@@ -5,9 +5,9 @@ use Rattle.tree_weights.proofs.node_weight.Statement.{statement}
 use Rattle.tree_weights.proofs.node_weight.Tie as tie
 use Rattle.tree_weights.proofs.node_weight.Reads as reads
 use Rattle.tree_weights.proofs.node_weight.Lts as lts
-use Rattle.shapes.proofs.classes.is_element.Reads as is-element-reads
-use Rattle.tree_nodes.proofs.fields.label.Reads as label-reads
-use Rattle.tree_nodes.proofs.fields.value.Reads as value-reads
+use Rattle.read_record.proofs.classes.is_element.Reads as is-element-reads
+use Rattle.tree_table.proofs.fields.label.Reads as label-reads
+use Rattle.tree_table.proofs.fields.value.Reads as value-reads
 use Rattle.tree_weights.proofs.mixed.Reads as mixed-reads
 
 -- src/lib.rt:35:9

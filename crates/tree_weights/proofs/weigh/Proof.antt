@@ -2,18 +2,18 @@ use Prim.Native.Nat.{ℕ, _+_, _-_, _≤_, _<_, _%_}
 use mathlib.Core.Path.{_≡_, _∙_, ap, ap₂}
 use native.Mathlib.Omega.{arith}
 use lib.ListN.{length, length-set}
-use Rattle.tree_nodes.specs.FileTable.{fileTable, classBy, TreeBytes}
-use Rattle.tree_nodes.specs.Ready.{bytes-tree}
+use Rattle.tree_table.specs.FileTable.{fileTable, classBy, TreeBytes}
+use Rattle.tree_table.specs.Ready.{bytes-tree}
 use Rattle.tree_weights.specs.Sums.{unlessAttribute}
 use Rattle.tree_weights.specs.Weights.{WeighedFrom, weighed-none, weighed-step, weighed-end, weightOf}
 use Rattle.tree_weights.proofs.weigh.Statement.{statement}
 use Rattle.tree_weights.proofs.weigh.Tie as tie
 use Rattle.tree_weights.proofs.weigh.Reads as reads
 use Rattle.tree_weights.proofs.weigh.Lts as lts
-use Rattle.tree_nodes.proofs.fields.parent.Reads as parent-reads
-use Rattle.tree_nodes.proofs.fields.size.Reads as size-reads
-use Rattle.tree_nodes.proofs.tables.at.Reads as at-reads
-use Rattle.tree_nodes.proofs.tables.blank.Reads as blank-reads
+use Rattle.tree_table.proofs.fields.parent.Reads as parent-reads
+use Rattle.tree_table.proofs.fields.size.Reads as size-reads
+use Rattle.tree_table.proofs.tables.at.Reads as at-reads
+use Rattle.tree_table.proofs.tables.blank.Reads as blank-reads
 use Rattle.tree_weights.proofs.no_weights.Reads as no-weights-reads
 use Rattle.tree_weights.proofs.node_weight.Reads as node-weight-reads
 use Rattle.tree_weights.proofs.wide.Reads as wide-reads

@@ -5,8 +5,8 @@ use Rattle.tree_weights.proofs.with_child.Statement.{statement}
 use Rattle.tree_weights.proofs.with_child.Tie as tie
 use Rattle.tree_weights.proofs.with_child.Reads as reads
 use Rattle.tree_weights.proofs.with_child.Lts as lts
-use Rattle.shapes.proofs.classes.is_attribute.Reads as is-attribute-reads
-use Rattle.tree_nodes.proofs.fields.label.Reads as label-reads
+use Rattle.read_record.proofs.classes.is_attribute.Reads as is-attribute-reads
+use Rattle.tree_table.proofs.fields.label.Reads as label-reads
 
 -- src/lib.rt:62:30
 label-requires : tie.Need-label-requires

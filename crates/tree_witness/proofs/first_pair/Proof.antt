@@ -4,19 +4,19 @@ use native.Mathlib.Omega.{arith}
 use lib.ListN.{length, getD}
 use Rattle.meaning.specs.Records.{keyIn}
 use Rattle.meaning.specs.Keys.{EqualPair}
-use Rattle.tree_nodes.specs.FileTable.{fileTable, classBy}
-use Rattle.tree_nodes.specs.Ready.{bytes-tree}
-use Rattle.tree_nodes.specs.Seek.{left}
+use Rattle.tree_table.specs.FileTable.{fileTable, classBy}
+use Rattle.tree_table.specs.Ready.{bytes-tree}
+use Rattle.tree_table.specs.Seek.{left}
 use Rattle.tree_rows.specs.Rows.{row}
-use Rattle.key_pairs.specs.Along.{Along, along-falls}
-use Rattle.key_pairs.specs.Marks.{Hanging, next-link}
-use Rattle.key_pairs.specs.Pairs.{simple-at}
+use Rattle.tree_pairs.specs.Along.{Along, along-falls}
+use Rattle.tree_pairs.specs.Marks.{Hanging, next-link}
+use Rattle.tree_pairs.specs.Pairs.{simple-at}
 use Rattle.tree_witness.specs.Firsts.{Firsts, Holds, look-start, look-next, look-found, look-none}
 use Rattle.tree_witness.proofs.first_pair.Statement.{statement}
 use Rattle.tree_witness.proofs.first_pair.Tie as tie
 use Rattle.tree_witness.proofs.first_pair.Reads as reads
 use Rattle.tree_witness.proofs.first_pair.Lts as lts
-use Rattle.tree_nodes.proofs.tables.at.Reads as at-reads
+use Rattle.tree_table.proofs.tables.at.Reads as at-reads
 use Rattle.tree_rows.proofs.hung.first_hung.Reads as first-hung-reads
 use Rattle.tree_rows.proofs.hung.next_hung.Reads as next-hung-reads
 use Rattle.tree_rows.proofs.rows.class_of.Reads as class-of-reads

@@ -4,17 +4,17 @@ use native.Mathlib.Omega.{arith}
 use borrow.Author.Needs.{needs}
 use lib.ListN.{length, getD}
 use Rattle.meaning.specs.Records.{keyIn}
-use Rattle.tree_nodes.specs.FileTable.{fileTable}
-use Rattle.tree_nodes.specs.Seek.{left}
+use Rattle.tree_table.specs.FileTable.{fileTable}
+use Rattle.tree_table.specs.Seek.{left}
 use Rattle.tree_rows.specs.Rows.{row}
-use Rattle.key_pairs.specs.Along.{Along, along-falls}
-use Rattle.key_pairs.specs.Marks.{Hanging, next-link}
+use Rattle.tree_pairs.specs.Along.{Along, along-falls}
+use Rattle.tree_pairs.specs.Marks.{Hanging, next-link}
 use Rattle.tree_witness.specs.Firsts.{Put, Bare, put-none, put-start, put-more, put-next, put-pass, put-all}
 use Rattle.tree_witness.proofs.put_firsts.Statement.{statement}
 use Rattle.tree_witness.proofs.put_firsts.Tie as tie
 use Rattle.tree_witness.proofs.put_firsts.Reads as reads
 use Rattle.tree_witness.proofs.put_firsts.Lts as lts
-use Rattle.tree_nodes.proofs.tables.at.Reads as at-reads
+use Rattle.tree_table.proofs.tables.at.Reads as at-reads
 use Rattle.tree_rows.proofs.hung.first_hung.Reads as first-hung-reads
 use Rattle.tree_rows.proofs.hung.next_hung.Reads as next-hung-reads
 use Rattle.tree_rows.proofs.rows.class_of.Reads as class-of-reads

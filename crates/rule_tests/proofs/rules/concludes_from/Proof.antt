@@ -7,7 +7,7 @@ use Rattle.rule_tests.proofs.rules.concludes_from.Lts as lts
 use Rattle.rule_tests.proofs.compare.is_both.Reads as is-both-reads
 use Rattle.rule_tests.proofs.rules.same_context.Reads as same-context-reads
 use Rattle.rule_tests.proofs.sets.same_sets.Reads as same-sets-reads
-use Rattle.shapes.proofs.keys.target.Reads as target-reads
+use Rattle.read_record.proofs.keys.target.Reads as target-reads
 
 -- src/rules.rt:310:9
 same-context-requires : tie.Need-same-context-requires

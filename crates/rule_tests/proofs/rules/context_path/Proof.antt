@@ -7,10 +7,10 @@ use Rattle.rule_tests.proofs.rules.context_path.Statement.{statement}
 use Rattle.rule_tests.proofs.rules.context_path.Tie as tie
 use Rattle.rule_tests.proofs.rules.context_path.Reads as reads
 use Rattle.rule_tests.proofs.rules.context_path.Lts as lts
-use Rattle.paths.proofs.included.Reads as included-reads
+use Rattle.path_words.proofs.included.Reads as included-reads
 use Rattle.rule_tests.proofs.rules.same_target.Reads as same-target-reads
 use Rattle.rule_tests.proofs.sets.same_sets.Reads as same-sets-reads
-use Rattle.shapes.proofs.keys.context.Reads as context-reads
+use Rattle.read_record.proofs.keys.context.Reads as context-reads
 
 -- src/rules.rt:143:9
 context-requires : tie.Need-context-requires

@@ -6,10 +6,10 @@ use Rattle.rule_tests.proofs.rules.cut_context.Statement.{statement}
 use Rattle.rule_tests.proofs.rules.cut_context.Tie as tie
 use Rattle.rule_tests.proofs.rules.cut_context.Reads as reads
 use Rattle.rule_tests.proofs.rules.cut_context.Lts as lts
-use Rattle.joins.proofs.join_is.Reads as join-is-reads
+use Rattle.rule_joins.proofs.join_is.Reads as join-is-reads
 use Rattle.rule_tests.proofs.rules.starts_any.Reads as starts-any-reads
-use Rattle.shapes.proofs.keys.context.Reads as context-reads
-use Rattle.shapes.proofs.keys.target.Reads as target-reads
+use Rattle.read_record.proofs.keys.context.Reads as context-reads
+use Rattle.read_record.proofs.keys.target.Reads as target-reads
 
 -- src/rules.rt:199:9
 target-requires : tie.Need-target-requires

@@ -4,8 +4,8 @@ use Rattle.rule_tests.proofs.rules.ends_target.Statement.{statement}
 use Rattle.rule_tests.proofs.rules.ends_target.Tie as tie
 use Rattle.rule_tests.proofs.rules.ends_target.Reads as reads
 use Rattle.rule_tests.proofs.rules.ends_target.Lts as lts
-use Rattle.joins.proofs.same.Reads as same-reads
-use Rattle.shapes.proofs.keys.target.Reads as target-reads
+use Rattle.read_record.proofs.names.same_bytes.Reads as same-bytes-reads
+use Rattle.read_record.proofs.keys.target.Reads as target-reads
 
 -- src/rules.rt:175:9
 target-requires : tie.Need-target-requires
@@ -24,20 +24,20 @@ sub-cut : tie.Need-sub-cut
 sub-cut c = search needs
 
 -- src/rules.rt:181:10
-sub-same : tie.Need-sub-same
-sub-same c = search needs
+sub-same-bytes : tie.Need-sub-same-bytes
+sub-same-bytes c = search needs
 
 -- src/rules.rt:181:10
-part-same-start : tie.Need-part-same-start
-part-same-start c = search needs
+part-same-bytes-start : tie.Need-part-same-bytes-start
+part-same-bytes-start c = search needs
 
 -- src/rules.rt:181:10
-part-same-end : tie.Need-part-same-end
-part-same-end c = search needs
+part-same-bytes-end : tie.Need-part-same-bytes-end
+part-same-bytes-end c = search needs
 
 -- src/rules.rt:181:5
-same-requires : tie.Need-same-requires
-same-requires c κs = search needs
+same-bytes-requires : tie.Need-same-bytes-requires
+same-bytes-requires c κs = search needs
 
 -- src/rules.rt:171:1
 returns-2 : tie.Need-returns-2
@@ -51,8 +51,8 @@ ends-target-spec =
     target-requires-2
     returns
     sub-cut
-    sub-same
-    part-same-start
-    part-same-end
-    same-requires
+    sub-same-bytes
+    part-same-bytes-start
+    part-same-bytes-end
+    same-bytes-requires
     returns-2)

@@ -4,9 +4,9 @@ use Rattle.rule_tests.proofs.rules.goes_on.Statement.{statement}
 use Rattle.rule_tests.proofs.rules.goes_on.Tie as tie
 use Rattle.rule_tests.proofs.rules.goes_on.Reads as reads
 use Rattle.rule_tests.proofs.rules.goes_on.Lts as lts
-use Rattle.joins.proofs.begins.Reads as begins-reads
-use Rattle.joins.proofs.simple.Reads as simple-reads
-use Rattle.shapes.proofs.keys.target.Reads as target-reads
+use Rattle.rule_joins.proofs.begins.Reads as begins-reads
+use Rattle.read_key.proofs.symbols.is_simple.Reads as is-simple-reads
+use Rattle.read_record.proofs.keys.target.Reads as target-reads
 
 -- src/rules.rt:97:9
 target-requires : tie.Need-target-requires
@@ -25,20 +25,20 @@ returns : tie.Need-returns
 returns c = search (goes-on-not)
 
 -- src/rules.rt:103:12
-sub-simple : tie.Need-sub-simple
-sub-simple c = search (begins-fits)
+sub-is-simple : tie.Need-sub-is-simple
+sub-is-simple c = search (begins-fits)
 
 -- src/rules.rt:103:12
-part-simple-start : tie.Need-part-simple-start
-part-simple-start c = search (begins-fits)
+part-is-simple-start : tie.Need-part-is-simple-start
+part-is-simple-start c = search (begins-fits)
 
 -- src/rules.rt:103:12
-part-simple-end : tie.Need-part-simple-end
-part-simple-end c = search needs
+part-is-simple-end : tie.Need-part-is-simple-end
+part-is-simple-end c = search needs
 
 -- src/rules.rt:103:5
-simple-requires : tie.Need-simple-requires
-simple-requires c κs = search needs
+is-simple-requires : tie.Need-is-simple-requires
+is-simple-requires c κs = search needs
 
 -- src/rules.rt:93:1
 returns-2 : tie.Need-returns-2
@@ -52,8 +52,8 @@ goes-on-spec =
     target-requires-2
     begins-requires
     returns
-    sub-simple
-    part-simple-start
-    part-simple-end
-    simple-requires
+    sub-is-simple
+    part-is-simple-start
+    part-is-simple-end
+    is-simple-requires
     returns-2)

@@ -4,8 +4,8 @@ use Rattle.rule_tests.proofs.rules.last_path.Statement.{statement}
 use Rattle.rule_tests.proofs.rules.last_path.Tie as tie
 use Rattle.rule_tests.proofs.rules.last_path.Reads as reads
 use Rattle.rule_tests.proofs.rules.last_path.Lts as lts
-use Rattle.shapes.proofs.keys.count.Reads as count-reads
-use Rattle.shapes.proofs.keys.path.Reads as path-reads
+use Rattle.read_record.proofs.keys.count.Reads as count-reads
+use Rattle.read_record.proofs.keys.path.Reads as path-reads
 
 -- src/rules.rt:251:9
 count-requires : tie.Need-count-requires

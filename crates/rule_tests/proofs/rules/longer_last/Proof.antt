@@ -7,7 +7,7 @@ use Rattle.rule_tests.proofs.rules.longer_last.Lts as lts
 use Rattle.rule_tests.proofs.compare.is_both.Reads as is-both-reads
 use Rattle.rule_tests.proofs.rules.is_with_empty.Reads as is-with-empty-reads
 use Rattle.rule_tests.proofs.rules.last_path.Reads as last-path-reads
-use Rattle.shapes.proofs.keys.target.Reads as target-reads
+use Rattle.read_record.proofs.keys.target.Reads as target-reads
 
 -- src/rules.rt:260:9
 is-with-empty-requires : tie.Need-is-with-empty-requires

@@ -6,7 +6,7 @@ use Rattle.rule_tests.proofs.rules.prefix_epsilon.Reads as reads
 use Rattle.rule_tests.proofs.rules.prefix_epsilon.Lts as lts
 use Rattle.rule_tests.proofs.rules.same_ends.Reads as same-ends-reads
 use Rattle.rule_tests.proofs.sets.all_begin.Reads as all-begin-reads
-use Rattle.rule_tests.proofs.sets.holds_empty.Reads as holds-empty-reads
+use Rattle.read_record.proofs.keys.holds_empty.Reads as holds-empty-reads
 
 -- src/rules.rt:69:9
 same-ends-requires : tie.Need-same-ends-requires

@@ -7,10 +7,10 @@ use Rattle.rule_tests.proofs.rules.target_path.Statement.{statement}
 use Rattle.rule_tests.proofs.rules.target_path.Tie as tie
 use Rattle.rule_tests.proofs.rules.target_path.Reads as reads
 use Rattle.rule_tests.proofs.rules.target_path.Lts as lts
-use Rattle.paths.proofs.included.Reads as included-reads
+use Rattle.path_words.proofs.included.Reads as included-reads
 use Rattle.rule_tests.proofs.rules.same_context.Reads as same-context-reads
 use Rattle.rule_tests.proofs.sets.same_sets.Reads as same-sets-reads
-use Rattle.shapes.proofs.keys.target.Reads as target-reads
+use Rattle.read_record.proofs.keys.target.Reads as target-reads
 
 -- src/rules.rt:159:9
 same-context-requires : tie.Need-same-context-requires

@@ -1,7 +1,7 @@
 use Prim.Native.Nat.{_-_}
 use Rattle.meaning.specs.Lists.{any, same}
 use Rattle.meaning.specs.Records.{keyIn}
-use Rattle.theory_lines.specs.SameParts.{allAmong}
+use Rattle.theory_rule_tests.specs.SameParts.{allAmong}
 use Rattle.rule_tests.specs.Walks.{Round, round-start, round-holds, round-stop, round-next, round-done}
 use native.Mathlib.Omega.{arith}
 use borrow.Author.Needs.{needs}
@@ -10,10 +10,10 @@ use Rattle.rule_tests.proofs.sets.all_among.Tie as tie
 use Rattle.rule_tests.proofs.sets.all_among.Reads as reads
 use Rattle.rule_tests.proofs.sets.all_among.Lts as lts
 use Rattle.rule_tests.proofs.sets.is_among.Reads as is-among-reads
-use Rattle.shapes.proofs.bodies.after_path.Reads as after-path-reads
-use Rattle.shapes.proofs.bodies.lead_path.Reads as lead-path-reads
-use Rattle.shapes.proofs.keys.count.Reads as count-reads
-use Rattle.shapes.proofs.keys.paths.Reads as paths-reads
+use Rattle.read_record.proofs.bodies.after_path.Reads as after-path-reads
+use Rattle.read_record.proofs.bodies.lead_path.Reads as lead-path-reads
+use Rattle.read_record.proofs.keys.count.Reads as count-reads
+use Rattle.read_record.proofs.keys.paths.Reads as paths-reads
 
 abbrev Inv-loop : tie.InvT-loop
 Inv-loop p k n rest₀ i₀ rest i = Round (λ s. any (same s) (keyIn k .paths)) (keyIn p .paths) n i rest

@@ -1,8 +1,8 @@
 use Prim.Native.Nat.{_-_}
 use Rattle.meaning.specs.Lists.{any}
 use Rattle.meaning.specs.Records.{keyIn}
-use Rattle.theory_lines.specs.Beginnings.{begins}
-use Rattle.theory_lines.specs.SameParts.{allBegin}
+use Rattle.theory_rule_tests.specs.Beginnings.{begins}
+use Rattle.theory_rule_tests.specs.SameParts.{allBegin}
 use Rattle.rule_tests.specs.Walks.{Round, round-start, round-holds, round-stop, round-next, round-done}
 use native.Mathlib.Omega.{arith}
 use borrow.Author.Needs.{needs}
@@ -11,10 +11,10 @@ use Rattle.rule_tests.proofs.sets.all_begin.Tie as tie
 use Rattle.rule_tests.proofs.sets.all_begin.Reads as reads
 use Rattle.rule_tests.proofs.sets.all_begin.Lts as lts
 use Rattle.rule_tests.proofs.sets.begins_some.Reads as begins-some-reads
-use Rattle.shapes.proofs.bodies.after_path.Reads as after-path-reads
-use Rattle.shapes.proofs.bodies.lead_path.Reads as lead-path-reads
-use Rattle.shapes.proofs.keys.count.Reads as count-reads
-use Rattle.shapes.proofs.keys.paths.Reads as paths-reads
+use Rattle.read_record.proofs.bodies.after_path.Reads as after-path-reads
+use Rattle.read_record.proofs.bodies.lead_path.Reads as lead-path-reads
+use Rattle.read_record.proofs.keys.count.Reads as count-reads
+use Rattle.read_record.proofs.keys.paths.Reads as paths-reads
 
 abbrev Inv-loop : tie.InvT-loop
 Inv-loop p k n rest₀ i₀ rest i = Round (λ s. any (begins s) (keyIn k .paths)) (keyIn p .paths) n i rest

@@ -1,19 +1,20 @@
 use mathlib.Core.Path.{_∙_}
 use Prim.Native.Nat.{_-_}
 use Rattle.meaning.specs.Records.{keyIn}
-use Rattle.theory_lines.specs.Beginnings.{begins}
-use Rattle.rule_tests.specs.Walks.{Hunt, hunt-start, hunt-holds, hunt-done, hunt-hit, hunt-miss, beginning-is}
+use Rattle.theory_rule_tests.specs.Beginnings.{begins}
+use Rattle.rule_tests.specs.Walks.{beginning-is}
 use native.Mathlib.Omega.{arith}
 use borrow.Author.Needs.{needs}
 use Rattle.rule_tests.proofs.sets.begins_some.Statement.{statement}
 use Rattle.rule_tests.proofs.sets.begins_some.Tie as tie
 use Rattle.rule_tests.proofs.sets.begins_some.Reads as reads
 use Rattle.rule_tests.proofs.sets.begins_some.Lts as lts
-use Rattle.joins.proofs.begins.Reads as begins-reads
-use Rattle.shapes.proofs.bodies.after_path.Reads as after-path-reads
-use Rattle.shapes.proofs.bodies.lead_path.Reads as lead-path-reads
-use Rattle.shapes.proofs.keys.count.Reads as count-reads
-use Rattle.shapes.proofs.keys.paths.Reads as paths-reads
+use Rattle.rule_joins.proofs.begins.Reads as begins-reads
+use Rattle.read_record.proofs.bodies.after_path.Reads as after-path-reads
+use Rattle.read_record.proofs.bodies.lead_path.Reads as lead-path-reads
+use Rattle.read_record.proofs.keys.count.Reads as count-reads
+use Rattle.read_record.proofs.keys.paths.Reads as paths-reads
+use Rattle.read_record.specs.Hunts.{Hunt, hunt-start, hunt-holds, hunt-hit, hunt-miss, hunt-done}
 
 abbrev Inv-loop : tie.InvT-loop
 Inv-loop path body n rest₀ i₀ rest i = Hunt (begins path) (keyIn body .paths) n i rest

@@ -8,10 +8,10 @@ use Rattle.rule_tests.proofs.sets.is_prefixed.Tie as tie
 use Rattle.rule_tests.proofs.sets.is_prefixed.Reads as reads
 use Rattle.rule_tests.proofs.sets.is_prefixed.Lts as lts
 use Rattle.rule_tests.proofs.compare.is_both.Reads as is-both-reads
-use Rattle.shapes.proofs.bodies.after_path.Reads as after-path-reads
-use Rattle.shapes.proofs.bodies.lead_path.Reads as lead-path-reads
-use Rattle.shapes.proofs.keys.count.Reads as count-reads
-use Rattle.shapes.proofs.keys.paths.Reads as paths-reads
+use Rattle.read_record.proofs.bodies.after_path.Reads as after-path-reads
+use Rattle.read_record.proofs.bodies.lead_path.Reads as lead-path-reads
+use Rattle.read_record.proofs.keys.count.Reads as count-reads
+use Rattle.read_record.proofs.keys.paths.Reads as paths-reads
 
 abbrev Inv-loop : tie.InvT-loop
 Inv-loop p front r n rest₀ other₀ i₀ rest other i = Beside front (keyIn p .paths) (keyIn r .paths) n i rest other

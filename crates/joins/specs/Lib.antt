@@ -1,7 +1,0 @@
--- What the contracts of this crate cite beside `meaning`, and the laws that prove them: one law for each return.
-pub mod Forms
-pub mod Classes
-pub mod Tables
-pub mod Joins
-pub mod Cuts
-pub mod Validity

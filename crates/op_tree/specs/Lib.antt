@@ -1,0 +1,4 @@
+pub mod ProfileKeys
+pub mod Inputs
+pub mod Asked
+pub mod One

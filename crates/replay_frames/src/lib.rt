@@ -1,3 +1,0 @@
-// What the program `replay` stands on: the cases that it reads, and the answer buffer that it lends to the operations. Nothing here knows an operation.
-pub mod cases;
-pub mod lent;

@@ -1,3 +1,0 @@
-pub mod Firing
-pub mod Ranges
-pub mod Finding

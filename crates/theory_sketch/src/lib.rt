@@ -1,1 +1,0 @@
-// Laws alone: what is drawn is the dressed pattern.

@@ -1,3 +1,0 @@
-pub mod ProfileKeys
-pub mod Inputs
-pub mod Asked

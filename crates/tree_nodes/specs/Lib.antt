@@ -1,8 +1,0 @@
--- The table that an accepted tree's bytes say, and child links over it.
-pub mod FileTable
-pub mod Decides
-pub mod Links
-pub mod Ready
-pub mod Rest
-pub mod Seek
-pub mod Zeros
