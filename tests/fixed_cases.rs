@@ -74,7 +74,7 @@ fn hold_reference(all: &[Fixed]) -> bool {
 fn next_answer(rest: &mut &[u8]) -> Option<Answer> {
     let end = rest.iter().position(|&byte| byte == b'\n')?;
     let line = String::from_utf8_lossy(&rest[..end]).to_string();
-    let has_bytes = ["rewritten ", "body ", "listed ", "implied ", "not implied "];
+    let has_bytes = ["rewritten ", "body ", "listed ", "implied ", "not implied ", "trimmed "];
     let mut length = 0;
     if has_bytes.iter().any(|word| line.starts_with(word)) {
         length = line.rsplit(' ').next()?.parse::<usize>().ok()?;

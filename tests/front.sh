@@ -108,6 +108,18 @@ expect 0 "" profile body "$examples/b.question" 0
 printf '\001\003\001\004\001\001\007' >"$work/wanted"
 cmp -s "$work/wanted" "$work/body" || fail "the body of record 6 is not its bytes"
 
+# trimmed proofs: nine lines become two, and stay when they are trimmed again
+"$front" decide "$examples/a.profile" "$examples/a.question" "$work/long" >"$work/said"
+expect 0 "trimmed 32$line" trim "$examples/a.profile" "$examples/a.question" "$work/long" "$work/short"
+expect 0 "accepted$line" checker proof "$examples/a.profile" "$examples/a.question" "$work/short"
+expect 0 "trimmed 32$line" trim "$examples/a.profile" "$examples/a.question" "$work/short" "$work/again"
+cmp -s "$work/short" "$work/again" || fail "trimming again changed the proof"
+expect 2 "refused 10 3 0$line" trim "$examples/a.profile" "$examples/a.question" "$work/empty" "$work/not_made"
+expect 5 "unreadable $work/none$line" trim "$examples/a.profile" "$examples/a.question" "$work/none" "$work/not_made"
+expect 4 "unwritable$line" trim "$examples/a.profile" "$examples/a.question" "$work/long" "$work/no/such/folder"
+expect 3 "usage: trim PROFILE QUESTION PROOF OUT$line" trim "$examples/a.profile" "$examples/a.question" "$work/long"
+[ ! -e "$work/not_made" ] || fail "a refused trimming made OUT"
+
 # an empty file is empty: no labels, so the question's symbol 3 is unknown
 expect 2 "refused 4 2 0$line" decide "$work/empty" "$examples/b.question" "$work/not_made"
 expect 0 "included$line" profile include "$examples/b.profile" "$work/empty" "$work/empty"

@@ -1,6 +1,6 @@
 //! What 01 promises of the operations together, held on the reference alone.
 use crate::reference::decide::proof;
-use crate::reference::derivations::derivation;
+use crate::reference::derivations::{derivation, padded};
 use crate::reference::generate::*;
 use crate::reference::operations::*;
 use crate::reference::random::Random;
@@ -8,22 +8,33 @@ use crate::reference::records::*;
 use crate::reference::refute::search;
 use crate::reference::rules::follows;
 use crate::reference::trees::Tree;
+use crate::reference::trim::premises;
 use std::collections::BTreeMap;
 
 const DERIVED_LINES: usize = 6;
 const SMALL_TREE: usize = 14;
 /// So many of a profile's keys are tried by definition, which is slow.
 const KEYS_BY_DEFINITION: usize = 3;
-/// Of so many questions one tree at least has to break a key: witnesses that nobody finds are not compared.
-const QUESTIONS_TO_A_WITNESS: usize = 10;
+/// Of so many questions one tree at least has to break a key, and one proof to become shorter: what nobody finds is not compared.
+const QUESTIONS_TO_A_FIND: usize = 10;
+
+/// What was compared: first witnesses, and proofs that trimming made shorter.
+#[derive(Default)]
+struct Finds {
+    witnesses: usize,
+    shorter: usize,
+}
 
 pub fn is_consistent(seed: u64, count: usize) -> bool {
     let mut random = Random::new(seed);
     let mut counts: BTreeMap<String, usize> = BTreeMap::new();
-    let (mut failed, mut witnesses) = (0, 0);
+    let mut failed = 0;
+    let mut finds = Finds::default();
     for number in 0..count {
         let asked = asked(&mut random);
-        let found = trees_and_lines(&mut random, &asked, &mut witnesses).and_then(|_| decision(&mut random, &asked));
+        let found = trees_and_lines(&mut random, &asked, &mut finds)
+            .and_then(|_| trimming(&mut random, &asked, &mut finds))
+            .and_then(|_| decision(&mut random, &asked));
         if let Err(fault) = &found {
             failed += 1;
             println!("question {} of seed {}: {}", number, seed, fault);
@@ -31,13 +42,15 @@ pub fn is_consistent(seed: u64, count: usize) -> bool {
         *counts.entry(found.unwrap_or_else(|fault| fault)).or_insert(0) += 1;
     }
     let list: Vec<String> = counts.iter().map(|(name, count)| format!("{} {}", name, count)).collect();
-    println!("the reference itself: {} questions, {} fail: {} · {} first witnesses", count, failed, list.join(" · "), witnesses);
-    failed == 0 && witnesses >= count / QUESTIONS_TO_A_WITNESS
+    let Finds { witnesses, shorter } = finds;
+    println!("the reference itself: {} questions, {} fail: {}", count, failed, list.join(" · "));
+    println!("the reference itself: {} first witnesses, {} proofs made shorter", witnesses, shorter);
+    failed == 0 && witnesses.min(shorter) >= count / QUESTIONS_TO_A_FIND
 }
 
 /// Rewriting changes nothing, a written tree is read, value equality by numbers, the fast tree test and the fast search for the first
 /// witness are the definitions, and no tree that keeps the profile breaks a line that follows. Counts the witnesses.
-fn trees_and_lines(random: &mut Random, asked: &Asked, witnesses: &mut usize) -> Result<(), String> {
+fn trees_and_lines(random: &mut Random, asked: &Asked, finds: &mut Finds) -> Result<(), String> {
     let profile = write_profile(&asked.profile);
     if rewrite(&profile, ANSWER_BYTES) != Ok(profile.clone()) {
         return Err("rewriting changes the profile".to_string());
@@ -62,7 +75,7 @@ fn trees_and_lines(random: &mut Random, asked: &Asked, witnesses: &mut usize) ->
         if witness != table.first_witness_by_definition(key) || witness.is_none() != table.keeps(key) {
             return Err("the first witness differs from the definition".to_string());
         }
-        *witnesses += witness.is_some() as usize;
+        finds.witnesses += witness.is_some() as usize;
     }
     let keeps_profile = asked.profile.keys.iter().all(|key| table.keeps(key));
     let lines = derivation(random, asked, DERIVED_LINES);
@@ -73,6 +86,43 @@ fn trees_and_lines(random: &mut Random, asked: &Asked, witnesses: &mut usize) ->
         if keeps_profile && !table.keeps(&line.key) {
             return Err(format!("a tree keeps the profile and breaks a line of rule {}", line.rule));
         }
+    }
+    Ok(())
+}
+
+/// 02, request 10: "The result is accepted for the same profile and question, no line in it is unused, no key occurs twice, and trimming it
+/// again gives the same bytes"; "The key numbers that rule 0 cites stay"; a proof that is not accepted is refused as the check refuses it.
+fn trimming(random: &mut Random, asked: &Asked, finds: &mut Finds) -> Result<(), String> {
+    let lines = match evidence(asked) {
+        Evidence::Proof(lines) if random.chance(1, 2) => lines,
+        _ => derivation(random, asked, DERIVED_LINES),
+    };
+    let last = lines.last().map_or(&asked.question, |line| &line.key);
+    let (profile, question) = (write_profile(&asked.profile), key_record(last));
+    let all = padded(random, asked, &lines);
+    let proof = write_proof(&all);
+    let left = match (check_proof(&profile, &question, &proof), trim(&profile, &question, &proof, ANSWER_BYTES)) {
+        (Err(one), Err(other)) if one == other => return Ok(()),
+        (Ok(()), Ok(left)) => left,
+        _ => return Err("trimming refuses otherwise than the proof check".to_string()),
+    };
+    finds.shorter += (left.len() < proof.len()) as usize;
+    if check_proof(&profile, &question, &left) != Ok(()) {
+        return Err("a trimmed proof is refused".to_string());
+    }
+    let kept = read_proof(&left, &asked.profile.classes, &|_, _| true).map_err(|_| "a trimmed proof is not read".to_string())?;
+    let is_used = |at: usize| at + 1 == kept.len() || kept[at + 1..].iter().any(|line| premises(line).contains(&at));
+    if !(0..kept.len()).all(is_used) {
+        return Err("a trimmed proof has a line that nothing uses".to_string());
+    }
+    if (0..kept.len()).any(|at| kept[..at].iter().any(|line| line.key == kept[at].key)) {
+        return Err("a trimmed proof has a key twice".to_string());
+    }
+    if kept.iter().any(|line| line.rule == 0 && !all.contains(line)) {
+        return Err("a trimmed proof cites another key".to_string());
+    }
+    if trim(&profile, &question, &left, ANSWER_BYTES) != Ok(left.clone()) {
+        return Err("trimming again changes the proof".to_string());
     }
     Ok(())
 }

@@ -5,7 +5,7 @@ use std::collections::BTreeMap;
 
 /// The operations that the program `replay` has: each of their cases is compared. Those of another
 /// operation may all be answered `not here`; they are counted apart and compared with nothing.
-pub const PRESENT: [u8; 8] = [REWRITE, BODY, INCLUDE, KEEP, CHECK_PROOF, CHECK_TREE, DECIDE, LIST];
+pub const PRESENT: [u8; 9] = [REWRITE, BODY, INCLUDE, KEEP, CHECK_PROOF, CHECK_TREE, DECIDE, LIST, TRIM];
 pub const NOT_HERE: &str = "not here";
 
 /// A run of so many cases has to meet the minimums; a shorter one only prints what it saw.
@@ -13,7 +13,7 @@ pub const WHOLE_RUN: usize = 200_000;
 
 /// So often each operation and each verdict has to be seen.
 pub const LEAST: usize = 10_000;
-const VERDICTS: [(u8, &str); 11] = [
+const VERDICTS: [(u8, &str); 12] = [
     (REWRITE, "rewritten"),
     (BODY, "body"),
     (INCLUDE, "included"),
@@ -25,18 +25,19 @@ const VERDICTS: [(u8, &str); 11] = [
     (DECIDE, "implied"),
     (DECIDE, "not implied"),
     (LIST, "listed"),
+    (TRIM, "trimmed"),
 ];
 
 /// Every refusal that an operation can give, by input and numbers (01, "Refusal numbers"). Each has to be
 /// seen, and no other: 11 is retired, a body lookup refuses nothing, 7 never has input 2.
 const REFUSALS: [(&[u8], u32, &[u32]); 9] = [
-    (&[REWRITE, DECIDE, LIST], ANSWER, &[14]),
-    (&[REWRITE, INCLUDE, KEEP, CHECK_PROOF, CHECK_TREE, DECIDE, LIST], PROFILE, &[1, 2, 3, 4, 5, 6, 7, 15]),
-    (&[KEEP, CHECK_PROOF, CHECK_TREE, DECIDE], QUESTION, &[1, 2, 4, 5, 6]),
+    (&[REWRITE, DECIDE, LIST, TRIM], ANSWER, &[14]),
+    (&[REWRITE, INCLUDE, KEEP, CHECK_PROOF, CHECK_TREE, DECIDE, LIST, TRIM], PROFILE, &[1, 2, 3, 4, 5, 6, 7, 15]),
+    (&[KEEP, CHECK_PROOF, CHECK_TREE, DECIDE, TRIM], QUESTION, &[1, 2, 4, 5, 6]),
     (&[INCLUDE], QUESTION, &[4, 6]),
     (&[INCLUDE], TREE_OR_PROOF, &[4, 6]),
     (&[KEEP, CHECK_TREE, LIST], TREE_OR_PROOF, &[1, 2, 7, 8, 16]),
-    (&[CHECK_PROOF], TREE_OR_PROOF, &[1, 2, 4, 5, 6, 7, 9, 10]),
+    (&[CHECK_PROOF, TRIM], TREE_OR_PROOF, &[1, 2, 4, 5, 6, 7, 9, 10]),
     (&[CHECK_TREE], PROFILE, &[12]),
     (&[CHECK_TREE], TREE_OR_PROOF, &[13]),
 ];

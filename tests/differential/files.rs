@@ -63,7 +63,7 @@ fn show(title: &str, case: &Case, wanted: &Answer, found: Option<&Answer>) {
 fn names(operation: u8) -> [&'static str; 2] {
     match operation {
         INCLUDE => ["path", "other"],
-        CHECK_PROOF => ["question", "proof"],
+        CHECK_PROOF | TRIM => ["question", "proof"],
         _ => ["question", "tree"],
     }
 }
@@ -98,6 +98,7 @@ fn commands(folder: &str, case: &Case) -> String {
         CHECK_PROOF => format!("checker proof {} {} {}", profile, second, third),
         CHECK_TREE => format!("checker tree {} {} {}", profile, second, third),
         DECIDE => format!("decide {} {} {}/out", profile, second, folder),
+        TRIM => format!("trim {} {} {} {}/out", profile, second, third, folder),
         _ => "list <tree".to_string(),
     };
     let run = match case.operation {

@@ -21,6 +21,11 @@ fn second(profile: &[u8]) -> Vec<u8> {
     joined(&[&hex(EDITION), profile])
 }
 
+/// A proof of A in one line.
+fn cited() -> Vec<u8> {
+    proof(&[&format!("0 0 - {}", A)])
+}
+
 /// Each operation that reads a profile, with other inputs that are accepted.
 fn operations(profile: &[u8]) -> Vec<(&'static str, Case)> {
     let question = key(A);
@@ -28,10 +33,11 @@ fn operations(profile: &[u8]) -> Vec<(&'static str, Case)> {
         ("rewriting", rewrite(profile)),
         ("inclusion", include(profile, &[2], &[0])),
         ("keeping", keep(profile, &question, &tree(ROOT))),
-        ("proof check", check_proof(profile, &question, &proof(&[&format!("0 0 - {}", A)]))),
+        ("proof check", check_proof(profile, &question, &cited())),
         ("tree check", check_tree(profile, &question, &tree(ROOT))),
         ("deciding", decide(profile, &question)),
         ("listing", list(profile, &tree(ROOT), 0)),
+        ("trimming", trim(profile, &question, &cited())),
     ]
 }
 
@@ -53,13 +59,14 @@ fn every_operation(cases: &mut Cases) {
         }
     }
     // Without the second A the same inputs are accepted.
-    let wanted = ["rewritten", "included", "kept", "accepted", "refused 13 3 0", "implied", "listed"];
+    let wanted = ["rewritten", "included", "kept", "accepted", "refused 13 3 0", "implied", "listed", "trimmed"];
     let once = profile(&[A, B]);
     for ((operation, case), word) in operations(&once).into_iter().zip(wanted) {
         let name = format!("{}: A, B", operation);
         match word {
             "rewritten" => cases.put_bytes(&name, case, word, &once),
             "listed" => cases.put_bytes(&name, case, word, b"nodes 1\n0 - 203 -\n"),
+            "trimmed" => cases.put_bytes(&name, case, word, &cited()),
             _ => cases.put(&name, case, word),
         }
     }

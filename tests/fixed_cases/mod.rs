@@ -18,6 +18,7 @@ mod profiles;
 mod proofs;
 mod rules;
 mod trees;
+mod trimmings;
 mod witnesses;
 
 use expectations::{Cases, Fixed};
@@ -25,7 +26,7 @@ use expectations::{Cases, Fixed};
 /// All cases; each name is used once, so that a difference names its case.
 pub fn all() -> Vec<Fixed> {
     let mut found = Vec::new();
-    let topics: [(&'static str, &[fn(&mut Cases)]); 7] = [
+    let topics: [(&'static str, &[fn(&mut Cases)]); 8] = [
         ("inputs", &[profiles::put, order::put, nodes::put, lines::put, bodies_and_paths::put, cuts::put]),
         ("trees", &[trees::put, listings::put]),
         ("checks", &[rules::put, proofs::put, counterexamples::put]),
@@ -33,6 +34,7 @@ pub fn all() -> Vec<Fixed> {
         ("editions", &[editions::put]),
         ("doubled keys", &[doubled::put]),
         ("witnesses", &[witnesses::put]),
+        ("trimmed proofs", &[trimmings::put]),
     ];
     for (topic, parts) in topics.iter() {
         let mut cases = Cases::of(topic);

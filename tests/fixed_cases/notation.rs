@@ -203,6 +203,10 @@ pub fn list(profile: &[u8], tree: &[u8], block: u32) -> Case {
     case(LIST, block, [profile, &[], tree])
 }
 
+pub fn trim(profile: &[u8], question: &[u8], proof: &[u8]) -> Case {
+    case(TRIM, 0, [profile, question, proof])
+}
+
 /// The same case with an answer buffer of another size.
 pub fn in_room(room: u32, case: Case) -> Case {
     Case { room, ..case }

@@ -1,6 +1,6 @@
 //! The cases of a run: fixed ones at each limit, then random ones, whole and damaged.
 use super::damage::{damaged, spoiled};
-use super::derivations::derivation;
+use super::derivations::{derivation, padded};
 use super::examples::{bench_profile_of, question, ROWS};
 use super::generate::*;
 use super::paths::*;
@@ -127,6 +127,7 @@ fn interactions(all: &mut Vec<Case>, base: &[u8]) {
             let last = Line { rule: 9, first: one, second: two, key: new.clone() };
             let proof = write_proof(&[cite(0, &first), cite(1, &second), last]);
             all.push(case(CHECK_PROOF, &profile, &key_record(&new), &proof));
+            all.push(case(TRIM, &profile, &key_record(&new), &proof));
         }
     }
 }
@@ -201,6 +202,7 @@ fn every_operation(all: &mut Vec<Case>, profile: &[u8]) {
     all.push(case(CHECK_TREE, profile, &question, &root));
     all.push(case(DECIDE, profile, &key_record(&key_of(1, 1, &[0])), &[]));
     all.push(case(LIST, profile, &[], &root));
+    all.push(case(TRIM, profile, &question, &proof));
 }
 
 fn path_limits(all: &mut Vec<Case>) {
@@ -285,7 +287,10 @@ fn proof_limits(all: &mut Vec<Case>) {
     let base = labels(3, 0);
     let asked = key_of(1, 0, &[0]);
     let line = |rule: u8, first: u16, key: &Key| line_record(&Line { rule, first, second: NONE, key: key.clone() });
-    let put = |all: &mut Vec<Case>, proof: &[u8]| all.push(case(CHECK_PROOF, &base, &key_record(&asked), proof));
+    let put = |all: &mut Vec<Case>, proof: &[u8]| {
+        all.push(case(CHECK_PROOF, &base, &key_record(&asked), proof));
+        all.push(case(TRIM, &base, &key_record(&asked), proof));
+    };
     for count in [0, 1, 255, 256, 257] {
         let lines: Vec<u8> = (0..count).flat_map(|at| if at == 0 { line(1, NONE, &asked) } else { line(3, 0, &asked) }).collect();
         for tail in [&[][..], &[4, 0, 4], &[4, 0, 4, 0], &[4, 0, 2, 0], &[0, 0, 4, 0]] {
@@ -308,6 +313,14 @@ fn proof_limits(all: &mut Vec<Case>) {
         padded.resize(size, 0);
         put(all, &padded);
     }
+    // Accepted: large lines that nothing uses; as many lines as there may be, each from the one before, or each for itself.
+    put(all, &[full, line(1, NONE, &asked)].concat());
+    let spelled = |number: usize| Key { context: (0..8).map(|bit| if number >> bit & 1 == 1 { 4 } else { 2 }).collect(), ..asked.clone() };
+    let idle: Vec<u8> = (0..255).flat_map(|at| line(1, NONE, &spelled(at))).collect();
+    put(all, &[idle, line(1, NONE, &asked)].concat());
+    let each_from_the_last: Vec<u8> =
+        (0..256).flat_map(|at| if at == 0 { line(1, NONE, &asked) } else { line(3, at - 1, &asked) }).collect();
+    put(all, &each_from_the_last);
 }
 
 /// The edition's record, rule 10 and attributes of one name at their borders, each in both editions.
@@ -434,17 +447,18 @@ fn tenth_rule(all: &mut Vec<Case>, profile: &[u8]) {
 
 type Maker = fn(&mut Random, &Asked) -> Case;
 
-/// How many of 100 random cases each maker makes: as many as give each verdict its minimum
+/// How many of 113 random cases each maker makes: as many as give each verdict its minimum
 /// (differential/counts.rs), and more where cases that look right go wrong.
-const SHARES: [(usize, Maker); 8] = [
+const SHARES: [(usize, Maker); 9] = [
     (6, rewrite_case),
-    (8, body_case),
-    (13, include_case),
-    (12, tree_case),
-    (6, list_case),
+    (9, body_case),
+    (14, include_case),
+    (13, tree_case),
+    (7, list_case),
     (9, derivation_case),
     (31, evidence_case),
     (15, decide_case),
+    (9, trim_case),
 ];
 
 fn random_case(random: &mut Random, asked: &Asked) -> Case {
@@ -505,6 +519,21 @@ fn derivation_case(random: &mut Random, asked: &Asked) -> Case {
     let last = lines.last().map(|line| line.key.clone()).filter(|key| is_good(key, &asked.profile.classes));
     let question = key_record(&last.unwrap_or_else(|| asked.question.clone()));
     case(CHECK_PROOF, &profile_of(asked), &question, &write_proof(&lines))
+}
+
+/// A proof with lines that are not needed: of the question where it is implied, else of the last key of a derivation that may be asked.
+fn trim_case(random: &mut Random, asked: &Asked) -> Case {
+    let mut lines = match evidence(asked) {
+        Evidence::Proof(lines) if random.chance(1, 2) => lines,
+        _ => {
+            let length = 1 + random.below(12);
+            derivation(random, asked, length)
+        }
+    };
+    let last = lines.iter().rposition(|line| is_good(&line.key, &asked.profile.classes));
+    lines.truncate(last.map_or(lines.len(), |last| last + 1));
+    let question = key_record(last.map_or(&asked.question, |last| &lines[last].key));
+    case(TRIM, &profile_of(asked), &question, &write_proof(&padded(random, asked, &lines)))
 }
 
 fn decide_case(_: &mut Random, asked: &Asked) -> Case {

@@ -1,47 +1,111 @@
-//! Random proofs: lines drawn from earlier ones by the rules.
+//! Random proofs: lines drawn from earlier ones by the rules, and proofs with lines that trimming takes out.
 use super::generate::{in_order, inner_path, key, path, Asked, World};
 use super::paths::*;
 use super::random::Random;
 use super::records::*;
+use super::trim::{premises, with_premises};
 
 /// Lines each drawn from the ones before by a rule, now and then with a slip.
 pub fn derivation(random: &mut Random, asked: &Asked, length: usize) -> Vec<Line> {
     let mut lines: Vec<Line> = Vec::new();
     while lines.len() < length {
-        let rule = if lines.is_empty() { random.one_of(&[0, 1, 10]) } else { random.below(11) as u8 };
-        let line = match rule {
-            0 if asked.profile.keys.is_empty() => continue,
-            0 => {
-                let number = random.below(asked.profile.keys.len());
-                Line { rule, first: number as u16, second: NONE, key: asked.profile.keys[number].clone() }
-            }
-            1 => {
-                let mut any = key(random, &asked.world);
-                any.context = join(&any.context, &any.target);
-                any.target.clear();
-                Line { rule, first: NONE, second: NONE, key: any }
-            }
-            // In edition 1 no line follows by rule 10: that is tried now and then.
-            10 if asked.world.edition == FIRST_EDITION && !random.chance(1, 20) => continue,
-            10 => match one_attribute(random, &asked.world) {
-                Some(key) => Line { rule, first: NONE, second: NONE, key },
-                None => continue,
-            },
-            9 => match interaction(random, &lines) {
-                Some(line) => line,
-                None => continue,
-            },
-            _ => {
-                let first = random.below(lines.len());
-                match from_one(random, &asked.world, rule, &lines[first].key) {
-                    Some(key) => Line { rule, first: first as u16, second: NONE, key },
-                    None => continue,
-                }
-            }
-        };
-        lines.push(if random.chance(1, 40) { slip(random, &asked.world, line) } else { line });
+        if let Some(line) = drawn(random, asked, &lines) {
+            lines.push(if random.chance(1, 40) { slip(random, &asked.world, line) } else { line });
+        }
     }
     lines
+}
+
+/// A line that some rule gives after the lines before it, if that rule gives any.
+fn drawn(random: &mut Random, asked: &Asked, lines: &[Line]) -> Option<Line> {
+    let rule = if lines.is_empty() { random.one_of(&[0, 1, 10]) } else { random.below(11) as u8 };
+    match rule {
+        0 if asked.profile.keys.is_empty() => None,
+        0 => {
+            let number = random.below(asked.profile.keys.len());
+            Some(Line { rule, first: number as u16, second: NONE, key: asked.profile.keys[number].clone() })
+        }
+        1 => {
+            let mut any = key(random, &asked.world);
+            any.context = join(&any.context, &any.target);
+            any.target.clear();
+            Some(Line { rule, first: NONE, second: NONE, key: any })
+        }
+        // In edition 1 no line follows by rule 10: that is tried now and then.
+        10 if asked.world.edition == FIRST_EDITION && !random.chance(1, 20) => None,
+        10 => one_attribute(random, &asked.world).map(|key| Line { rule, first: NONE, second: NONE, key }),
+        9 => interaction(random, lines),
+        _ => {
+            let first = random.below(lines.len());
+            from_one(random, &asked.world, rule, &lines[first].key).map(|key| Line { rule, first: first as u16, second: NONE, key })
+        }
+    }
+}
+
+/// The proof with lines that trimming takes out: some doubled, with or without use, some idle, some moved to where their premises just
+/// stand. What followed follows still, and the last key stays.
+pub fn padded(random: &mut Random, asked: &Asked, lines: &[Line]) -> Vec<Line> {
+    let mut all = lines.to_vec();
+    let times = if all.is_empty() { 0 } else { random.below(10) };
+    for _ in 0..times {
+        match random.below(4) {
+            0 | 1 => double_line(random, &mut all),
+            2 => {
+                let at = random.below(all.len());
+                if let Some(line) = drawn(random, asked, &all[..at]) {
+                    insert_line(&mut all, at, line);
+                }
+            }
+            _ => move_upwards(random, &mut all),
+        }
+    }
+    all
+}
+
+/// Puts a line at that place; the numbers of those behind it grow.
+fn insert_line(lines: &mut Vec<Line>, at: usize, line: Line) {
+    let number = |old: u16| if old as usize >= at { old.saturating_add(1) } else { old };
+    for behind in &mut lines[at..] {
+        *behind = with_premises(behind, &number);
+    }
+    lines.insert(at, line);
+}
+
+/// Writes a line's key once more behind it, as it was or from the line itself by a rule that changes nothing; only the last line's key
+/// behind all others. Of the lines behind that, each that uses the first may use the second instead.
+fn double_line(random: &mut Random, lines: &mut Vec<Line>) {
+    let old = random.below(lines.len());
+    let new = (old + 1 + random.below(lines.len() - old)).min((old + 1).max(lines.len() - 1));
+    let again = match random.below(3) {
+        0 => lines[old].clone(),
+        _ => Line { rule: random.one_of(&[3, 5, 6, 7]), first: old as u16, second: NONE, key: lines[old].key.clone() },
+    };
+    insert_line(lines, new, again);
+    for line in &mut lines[new + 1..] {
+        if random.chance(1, 2) {
+            *line = with_premises(line, &|premise| if premise as usize == old { new as u16 } else { premise });
+        }
+    }
+}
+
+/// Moves a line, but not the last, upwards, to anywhere behind its premises.
+fn move_upwards(random: &mut Random, lines: &mut Vec<Line>) {
+    let from = random.below(lines.len());
+    let lowest = premises(&lines[from]).iter().map(|&premise| premise + 1).max().unwrap_or(0);
+    if from + 1 == lines.len() || lowest > from {
+        return;
+    }
+    let to = lowest + random.below(from - lowest + 1);
+    let number = |old: u16| match old as usize {
+        old if old == from => to as u16,
+        old if (to..from).contains(&old) => old as u16 + 1,
+        _ => old,
+    };
+    let moved = lines.remove(from);
+    lines.insert(to, moved);
+    for line in lines {
+        *line = with_premises(line, &number);
+    }
 }
 
 /// A key whose target is an attribute label, if there is one.

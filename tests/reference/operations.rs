@@ -6,6 +6,7 @@ use super::paths::is_included;
 use super::records::*;
 use super::rules::follows;
 use super::trees::Tree;
+use super::trim::trimmed;
 use super::witness::Witness;
 use super::wrong;
 
@@ -56,15 +57,27 @@ pub fn keep(profile: &[u8], question: &[u8], tree: &[u8]) -> Result<Option<Witne
     Ok(Tree::new(&nodes, &profile.classes).first_witness(&key))
 }
 
-pub fn check_proof(profile: &[u8], question: &[u8], proof: &[u8]) -> Result<(), Refusal> {
+/// The question and the lines of a proof of it that is accepted.
+fn accepted_proof(profile: &[u8], question: &[u8], proof: &[u8]) -> Result<(Key, Vec<Line>), Refusal> {
     let profile = read_profile(profile)?;
     let key = read_question(question, &profile.classes)?;
     let lines = read_proof(proof, &profile.classes, &|line, before| follows(line, before, &profile))?;
     match lines.last() {
         None => refuse(10, TREE_OR_PROOF, 0),
         Some(last) if last.key != key => refuse(10, TREE_OR_PROOF, lines.len() - 1),
-        Some(_) => Ok(()),
+        Some(_) => Ok((key, lines)),
     }
+}
+
+pub fn check_proof(profile: &[u8], question: &[u8], proof: &[u8]) -> Result<(), Refusal> {
+    accepted_proof(profile, question, proof).map(|_| ())
+}
+
+/// "A proof that is not accepted is refused with the checker's number."
+pub fn trim(profile: &[u8], question: &[u8], proof: &[u8], answer: usize) -> Result<Vec<u8>, Refusal> {
+    check_answer(answer)?;
+    let (key, lines) = accepted_proof(profile, question, proof)?;
+    Ok(write_proof(&trimmed(&lines, &key)))
 }
 
 /// A refusal of the counterexample check: "12 carries it for the lowest broken key" (02, request 9), no other has a witness.

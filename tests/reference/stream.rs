@@ -19,7 +19,10 @@ pub const CHECK_PROOF: u8 = 5;
 pub const CHECK_TREE: u8 = 6;
 pub const DECIDE: u8 = 7;
 pub const LIST: u8 = 8;
-pub const OPERATIONS: [&str; 9] = ["", "rewrite", "body", "include", "keep", "proof", "tree", "decide", "list"];
+/// 9 to 12 are kept for the requests 1 and 3.
+pub const TRIM: u8 = 13;
+pub const OPERATIONS: [&str; 14] =
+    ["", "rewrite", "body", "include", "keep", "proof", "tree", "decide", "list", "", "", "", "", "trim"];
 
 #[derive(Clone)]
 pub struct Case {
@@ -52,7 +55,7 @@ pub fn write_answer(out: &mut dyn Write, answer: &Answer) -> std::io::Result<()>
 }
 
 /// Words of a line that ends in a number of bytes, which follow it.
-const WITH_BYTES: [&str; 5] = ["rewritten ", "body ", "listed ", "implied ", "not implied "];
+const WITH_BYTES: [&str; 6] = ["rewritten ", "body ", "listed ", "implied ", "not implied ", "trimmed "];
 
 /// The next answer of a stream; none where it ends or breaks off.
 pub fn read_answer(stream: &mut dyn BufRead) -> Option<Answer> {
@@ -114,6 +117,7 @@ pub fn answer(case: &Case) -> Answer {
         CHECK_PROOF => check_proof(a, b, c).map(|_| word("accepted")),
         CHECK_TREE => Ok(countered(check_counterexample(a, b, c))),
         LIST => list(a, c, number as u64, room).map(|bytes| with_bytes("listed", bytes)),
+        TRIM => trim(a, b, c, room).map(|bytes| with_bytes("trimmed", bytes)),
         _ => decide(a, b, room).map(|decision| match decision {
             Decision::Implied(proof) => with_bytes("implied", proof),
             Decision::NotImplied(tree) => with_bytes("not implied", tree),

@@ -10,3 +10,4 @@ pub mod Refusals
 pub mod Pattern
 pub mod Listing
 pub mod Operations
+pub mod Trimming

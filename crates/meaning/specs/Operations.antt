@@ -18,8 +18,10 @@ use Rattle.meaning.specs.Refusals.{Refusal, Profile, Walked, firstRefusa
 use Rattle.meaning.specs.Pattern.{IsU, writtenTree}
 use Rattle.meaning.specs.Listing.{block}
 
+-- 01's operations, then those of 02: requests 1, 3, 10, 7 and 12
 pub data Verdict : Type 0 where
   refused rewritten included notIncluded kept broken accepted implied notImplied listed : Verdict
+  keyRead lineWritten reduced dropProved trimmed salvaged reported : Verdict
 
 -- An answer: the verdict, "number, input .. and record number" of a refusal (else 0), bytes used, the answer buffer at the end (empty
 -- where an operation is lent none), and the numbers of a witness (none where no key is found broken)

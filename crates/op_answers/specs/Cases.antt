@@ -25,6 +25,8 @@ use Rattle.op_answers.specs.declared.Listing.{Listing}
 use Rattle.op_answers.specs.declared.Listing.the-variants as L
 use Rattle.op_answers.specs.declared.Deciding.{Deciding}
 use Rattle.op_answers.specs.declared.Deciding.the-variants as D
+use Rattle.op_answers.specs.declared.Filling.{Filling}
+use Rattle.op_answers.specs.declared.Filling.the-variants as F
 
 -- the code's refusal is the table's
 abbrev pub meant : Refusal → Table.Refusal
@@ -89,3 +91,8 @@ abbrev pub decidingAnswer : Deciding → List ℕ → Answer
 decidingAnswer (D.Implied used) buffer = usedOf implied used buffer
 decidingAnswer (D.NotImplied used) buffer = usedOf notImplied used buffer
 decidingAnswer (D.Refused r) buffer = refusedBy (meant r) buffer
+
+-- an operation of 02 that fills the buffer, by its verdict
+abbrev pub fillingAnswer : Verdict → Filling → List ℕ → Answer
+fillingAnswer v (F.Filled used) buffer = usedOf v used buffer
+fillingAnswer v (F.Refused r) buffer = refusedBy (meant r) buffer

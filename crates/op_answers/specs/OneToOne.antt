@@ -6,7 +6,7 @@ use native.Mathlib.Omega.{arith}
 use lib.ListN.{length, take, drop, replicate, getD, take-append-drop}
 use lib.Seq.{length-take-le}
 use Rattle.meaning.specs.Refusals as Table
-use Rattle.meaning.specs.Operations.{Answer, refusedBy, plain, shown, brokenBy, refused, rewritten, included, notIncluded, kept, broken, accepted, listed, implied, notImplied}
+use Rattle.meaning.specs.Operations.{Answer, Verdict, refusedBy, plain, shown, brokenBy, refused, rewritten, included, notIncluded, kept, broken, accepted, listed, implied, notImplied}
 use Rattle.op_answers.specs.declared.Refusal.{Refusal}
 use Rattle.op_answers.specs.declared.Rewriting.{Rewriting}
 use Rattle.op_answers.specs.declared.Rewriting.the-variants as R
@@ -23,7 +23,9 @@ use Rattle.op_answers.specs.declared.Listing.{Listing}
 use Rattle.op_answers.specs.declared.Listing.the-variants as L
 use Rattle.op_answers.specs.declared.Deciding.{Deciding}
 use Rattle.op_answers.specs.declared.Deciding.the-variants as D
-use Rattle.op_answers.specs.Cases.{meant, numbersOf, pairsOf, Padded, KeepingPadded, CounteringPadded, rewritingAnswer, inclusionAnswer, keepingAnswer, checkingAnswer, counteringAnswer, listingAnswer, decidingAnswer}
+use Rattle.op_answers.specs.declared.Filling.{Filling}
+use Rattle.op_answers.specs.declared.Filling.the-variants as F
+use Rattle.op_answers.specs.Cases.{meant, numbersOf, pairsOf, Padded, KeepingPadded, CounteringPadded, rewritingAnswer, inclusionAnswer, keepingAnswer, checkingAnswer, counteringAnswer, listingAnswer, decidingAnswer, fillingAnswer}
 
 -- a refusal is its number, input and record
 refusalIn : Answer → Refusal
@@ -116,6 +118,14 @@ checking-one C.Accepted C.Accepted e = refl
 checking-one C.Accepted (C.Refused n′) e = let v : accepted ≡ refused = ap (λ (z : Answer). z .verdict) e in let z : _≡_ {A = ℕ} 0 1 = cc in absurd (omega arith)
 checking-one (C.Refused n) C.Accepted e = let v : refused ≡ accepted = ap (λ (z : Answer). z .verdict) e in let z : _≡_ {A = ℕ} 0 1 = cc in absurd (omega arith)
 checking-one (C.Refused n) (C.Refused n′) e = ap C.Refused (refusal-one n n′ [] [] e .0)
+
+-- an operation of 02 that fills a buffer, whatever its verdict but a refusal
+pub filling-one : (v : Verdict) → (v ≡ refused → ⊥) → (a b : Filling) (x y : List ℕ) → fillingAnswer v a x ≡ fillingAnswer v b y → (a ≡ b) × (x ≡ y)
+unfolding refusedBy
+filling-one v other (F.Filled n) (F.Filled n′) x y e = (ap F.Filled (ap (λ (z : Answer). z .used) e), ap (λ (z : Answer). z .buffer) e)
+filling-one v other (F.Filled n) (F.Refused n′) x y e = absurd (other (ap (λ (z : Answer). z .verdict) e))
+filling-one v other (F.Refused n) (F.Filled n′) x y e = absurd (other (sym (ap (λ (z : Answer). z .verdict) e)))
+filling-one v other (F.Refused n) (F.Refused n′) x y e = let r = refusal-one n n′ x y e in (ap F.Refused (r .0), r .1)
 
 -- broken and accepted carry a witness, and 12 one with the number of its key: of padded witnesses there is one
 pub keeping-one : (a b : Keeping) → KeepingPadded a → KeepingPadded b → keepingAnswer a ≡ keepingAnswer b → a ≡ b

@@ -82,6 +82,12 @@ pub enum Deciding {
     Refused(Refusal),
 }
 
+// 02's operations that fill an answer buffer: so many bytes are used. Which operation it was is said by its verdict in the contract.
+pub enum Filling {
+    Filled(usize),
+    Refused(Refusal),
+}
+
 // "every operation that fills an answer buffer ..: it is under 65,536 bytes".
 pub const ANSWER_BYTES: usize = 65536;
 

@@ -5,12 +5,14 @@
 // that this program does not have, `changed` for an operation that changed a byte of the answer buffer behind those it used.
 use op_answers::Checking;
 use op_answers::Deciding;
+use op_answers::Filling;
 use op_answers::Inclusion;
 use op_answers::Listing;
 use op_answers::Rewriting;
 use op_list::list_block;
 use op_proof::check_proof;
 use op_tree::check_counterexample;
+use op_trim::trim;
 use program_files::print;
 use program_files::print_count;
 use program_files::print_refusal;
@@ -40,6 +42,8 @@ const CHECK_TREE: u8 = 6;
 const DECIDE: u8 = 7;
 
 const LIST: u8 = 8;
+
+const TRIM: u8 = 13;
 
 // No input of the stream is longer than a question of two whole records, and there are three.
 const INPUTS_ROOM: usize = 393216;
@@ -102,7 +106,24 @@ fn decide(profile: &[u8], question: &[u8], answer: &mut [u8]) {
     }
 }
 
-// The operations that fill an answer buffer: one `if` for each.
+// The line of an operation of 02 that fills an answer buffer, by its word.
+fn filling(word: &[u8], answered: Filling, answer: &mut [u8]) {
+    match answered {
+        Filling::Refused(refusal) => refused(refusal, answer),
+        Filling::Filled(used) => filled(word, used, answer),
+    }
+}
+
+// The operations of 02 that fill an answer buffer: one `if` for each.
+fn answer_request(case: Case, first: &[u8], second: &[u8], third: &[u8], answer: &mut [u8]) {
+    if case.operation == TRIM {
+        let trimmed = trim(first, second, third, answer);
+        return filling(b"trimmed", trimmed, answer);
+    }
+    not_here();
+}
+
+// Those of 01.
 fn answer_filling(case: Case, first: &[u8], second: &[u8], third: &[u8], answer: &mut [u8]) {
     if case.operation == REWRITE {
         return rewrite(first, answer);
@@ -113,7 +134,7 @@ fn answer_filling(case: Case, first: &[u8], second: &[u8], third: &[u8], answer:
     if case.operation == LIST {
         return list(first, third, case.number, answer);
     }
-    not_here();
+    answer_request(case, first, second, third, answer);
 }
 
 // One `if` for each operation that fills none.

@@ -26,6 +26,13 @@ use Rattle.meaning.specs.Operations.{
   kept,
   broken,
   listed,
+  keyRead,
+  lineWritten,
+  reduced,
+  dropProved,
+  trimmed,
+  salvaged,
+  reported,
   choose,
   Unless,
   refusedBy,
@@ -80,6 +87,13 @@ isImplied broken = false
 isImplied accepted = false
 isImplied notImplied = false
 isImplied listed = false
+isImplied keyRead = false
+isImplied lineWritten = false
+isImplied reduced = false
+isImplied dropProved = false
+isImplied trimmed = false
+isImplied salvaged = false
+isImplied reported = false
 
 unfoldable isRefused : Verdict → Bool
 isRefused refused = true
@@ -92,6 +106,13 @@ isRefused broken = false
 isRefused accepted = false
 isRefused notImplied = false
 isRefused listed = false
+isRefused keyRead = false
+isRefused lineWritten = false
+isRefused reduced = false
+isRefused dropProved = false
+isRefused trimmed = false
+isRefused salvaged = false
+isRefused reported = false
 
 not-other : implied ≡ notImplied → ⊥
 unfolding isImplied

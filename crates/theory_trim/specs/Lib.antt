@@ -1,0 +1,11 @@
+pub mod Numbered
+pub mod Firsts
+pub mod Needs
+pub mod Premises
+pub mod Moved
+pub mod Trimmed
+pub mod Again
+pub mod TrimmedBytes
+pub mod Marks
+pub mod TrimAnswers
+pub mod Reached
