@@ -10,6 +10,8 @@ pub enum Operation {
     CheckCounterexample,
     ListBlock,
     Decide,
+    Reduce,
+    Trim,
 }
 
 impl Operation {
@@ -22,6 +24,8 @@ impl Operation {
             Operation::CheckCounterexample => "check_counterexample",
             Operation::ListBlock => "list_block",
             Operation::Decide => "decide",
+            Operation::Reduce => "reduce",
+            Operation::Trim => "trim",
         }
     }
 
@@ -42,6 +46,8 @@ impl Operation {
             Operation::CheckProof | Operation::CheckCounterexample => ["refused", "accepted", ""],
             Operation::ListBlock => ["refused", "listed", ""],
             Operation::Decide => ["refused", "implied", "not implied"],
+            Operation::Reduce => ["refused", "reduced", ""],
+            Operation::Trim => ["refused", "trimmed", ""],
         }
     }
 }

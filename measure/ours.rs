@@ -13,6 +13,8 @@ extern "C" {
     fn bench_check_counterexample(profile: Bytes, _: usize, question: Bytes, _: usize, tree: Bytes, _: usize, told: Told);
     fn bench_list_block(profile: Bytes, _: usize, tree: Bytes, _: usize, block: usize, answer: Room, _: usize, told: Told);
     fn bench_decide(profile: Bytes, _: usize, question: Bytes, _: usize, answer: Room, _: usize, told: Told);
+    fn bench_reduce(profile: Bytes, _: usize, answer: Room, _: usize, told: Told);
+    fn bench_trim(profile: Bytes, _: usize, question: Bytes, _: usize, proof: Bytes, _: usize, answer: Room, _: usize, told: Told);
 }
 
 /// The words of the answer; bytes used stand at the front of the answer buffer.
@@ -31,6 +33,8 @@ pub fn run(case: &Case, answer: &mut [u8]) -> Words {
             Operation::CheckCounterexample => bench_check_counterexample(p, ps, s, ss, t, ts, &mut told),
             Operation::ListBlock => bench_list_block(p, ps, s, ss, case.block, a, room, &mut told),
             Operation::Decide => bench_decide(p, ps, s, ss, a, room, &mut told),
+            Operation::Reduce => bench_reduce(p, ps, a, room, &mut told),
+            Operation::Trim => bench_trim(p, ps, s, ss, t, ts, a, room, &mut told),
         }
     }
     told

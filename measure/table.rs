@@ -171,6 +171,25 @@ fn decisions() -> Vec<Case> {
     cases
 }
 
+/// Each key is asked of those still there: a search for each.
+fn reductions() -> Vec<Case> {
+    let reduce = |input, profile| Case::new(Operation::Reduce, input, [profile, vec![], vec![]], "reduced");
+    vec![
+        reduce("64 keys of the segment", segment_profile()),
+        reduce("8 keys of 8 steps", ladder(8, true).0),
+        reduce("64 keys, 8 steps, 56 keys idle", ladder(PROFILE_KEYS, true).0),
+    ]
+}
+
+fn trimmings() -> Vec<Case> {
+    let trim = |input, inputs| Case::new(Operation::Trim, input, inputs, "trimmed");
+    vec![
+        trim("256 lines, contexts of 32 symbols", proof_of_contexts()),
+        trim("256 lines, 48 key paths", proof_of_sets()),
+        trim("64 keys, the proof of 8 steps", proof_of_steps()),
+    ]
+}
+
 fn listings() -> Vec<Case> {
     let list = |block| {
         let input = format!("block {} of a chain of 4096 nodes", block);
@@ -181,5 +200,5 @@ fn listings() -> Vec<Case> {
 }
 
 pub fn cases() -> Vec<Case> {
-    [profiles(), inclusions(), tree_tests(), counterexamples(), proofs(), decisions(), listings()].into_iter().flatten().collect()
+    [profiles(), inclusions(), tree_tests(), counterexamples(), proofs(), decisions(), listings(), reductions(), trimmings()].into_iter().flatten().collect()
 }

@@ -52,6 +52,8 @@ pub fn run(case: &Case) -> (Words, Vec<u8>) {
             operations::list(profile, second, case.block as u64, ANSWER_BYTES).map(|bytes| written(FIRST_CASE, bytes))
         }
         Operation::Decide => operations::decide(profile, second, ANSWER_BYTES).map(decided),
+        Operation::Reduce => operations::reduce(profile, ANSWER_BYTES).map(|(bytes, _)| written(FIRST_CASE, bytes)),
+        Operation::Trim => operations::trim(profile, second, third, ANSWER_BYTES).map(|bytes| written(FIRST_CASE, bytes)),
     }
     .unwrap_or_else(refused)
 }

@@ -108,6 +108,29 @@ expect 0 "" profile body "$examples/b.question" 0
 printf '\001\003\001\004\001\001\007' >"$work/wanted"
 cmp -s "$work/wanted" "$work/body" || fail "the body of record 6 is not its bytes"
 
+# lean profiles: the keys 0 and 2 are dropped, and key 2's proof is checked against the reduced profile, which is h's
+expect 0 "reduced 69 dropped 0,2$line" lean reduce "$examples/lean.profile" "$work/lean"
+cmp -s "$examples/h.profile" "$work/lean" || fail "the reduced profile is not h's"
+expect 0 "reduced 69 dropped -$line" lean reduce "$work/lean" "$work/again"
+cmp -s "$work/lean" "$work/again" || fail "reducing again changed the profile"
+expect 0 "reduced 80 dropped -$line" lean reduce "$examples/f.profile" "$work/again"
+expect 0 "reduced 0 dropped -$line" lean reduce "$work/empty" "$work/again"
+[ ! -s "$work/again" ] || fail "reducing an empty profile wrote something"
+expect 0 "proof 144$line" lean proof "$examples/lean.profile" 2 "$work/of_2"
+expect 0 "accepted$line" checker proof "$work/lean" "$examples/a.question" "$work/of_2"
+expect 2 "refused 9 3 1$line" checker proof "$examples/lean.profile" "$examples/a.question" "$work/of_2"
+expect 0 "proof 144$line" lean proof "$examples/lean.profile" 0 "$work/of_0"
+expect 0 "accepted$line" checker proof "$work/lean" "$examples/h.question" "$work/of_0"
+# not dropped: OUT is made, and made empty
+for number in 1 3 99 99999999999999999999999999; do
+    cp "$work/of_2" "$work/of_none"
+    expect 0 "proof 0$line" lean proof "$examples/lean.profile" "$number" "$work/of_none"
+    [ -f "$work/of_none" ] && [ ! -s "$work/of_none" ] || fail "the proof of number $number is not an empty file"
+done
+expect 2 "refused 4 1 0$line" lean reduce "$examples/b.question" "$work/not_made"
+expect 2 "refused 4 1 0$line" lean proof "$examples/b.question" 0 "$work/not_made"
+[ ! -e "$work/not_made" ] || fail "a refusal made OUT"
+
 # trimmed proofs: nine lines become two, and stay when they are trimmed again
 "$front" decide "$examples/a.profile" "$examples/a.question" "$work/long" >"$work/said"
 expect 0 "trimmed 32$line" trim "$examples/a.profile" "$examples/a.question" "$work/long" "$work/short"
@@ -136,6 +159,8 @@ for name in "$work/no such file" "$work/other folder" ""; do
     expect 5 "$said" checker tree "$examples/b.profile" "$examples/b.question" "$name"
     expect 5 "$said" profile rewrite "$name" "$work/not_made"
     expect 5 "$said" profile body "$name" 6
+    expect 5 "$said" lean reduce "$name" "$work/not_made"
+    expect 5 "$said" lean proof "$name" 0 "$work/not_made"
     expect 5 "$said" profile include "$name" "$work/narrow" "$work/wide"
     expect 5 "$said" profile include "$examples/b.profile" "$name" "$work/wide"
     expect 5 "$said" profile include "$examples/b.profile" "$work/narrow" "$name"
@@ -152,6 +177,9 @@ chmod 000 "$work/locked"
 [ ! -e "$work/not_made" ] || fail "an unreadable file made OUT"
 expect 4 "unwritable$line" decide "$examples/a.profile" "$examples/a.question" "$work/no/such/folder"
 expect 4 "unwritable$line" profile rewrite "$examples/a.profile" "$work/no/such/folder"
+expect 4 "unwritable$line" lean reduce "$examples/lean.profile" "$work/no/such/folder"
+expect 4 "unwritable$line" lean proof "$examples/lean.profile" 2 "$work/no/such/folder"
+expect 4 "unwritable$line" lean proof "$examples/lean.profile" 1 "$work/no/such/folder"
 
 # bad usage
 usage="usage: decide PROFILE QUESTION OUT$line"
@@ -167,6 +195,12 @@ expect 3 "$usage" profile body "$examples/a.profile" six
 expect 3 "$usage" profile body "$examples/a.profile" ""
 expect 3 "$usage" profile body "$examples/a.profile" -1
 expect 3 "$usage" profile keep "$examples/a.profile"
+usage="usage: lean reduce PROFILE OUT | lean proof PROFILE N OUT$line"
+expect 3 "$usage" lean
+expect 3 "$usage" lean reduce "$examples/lean.profile"
+expect 3 "$usage" lean proof "$examples/lean.profile" "$work/not_made"
+for number in two "" -1; do expect 3 "$usage" lean proof "$examples/lean.profile" "$number" "$work/not_made"; done
+expect 3 "$usage" lean neither "$examples/lean.profile" "$work/not_made"
 [ ! -e "$work/not_made" ] || fail "a wrong call made OUT"
 found=0
 "$front" no_such_command >"$work/found" || found=$?

@@ -1,6 +1,7 @@
 #!/bin/sh
-# Holds examples/ROW.profile and examples/ROW.question to examples/rows.txt: the records are made again from what a reader sees there, and every byte is
-# compared. No other profile or question may stand beside them, and a changed row has to be seen.
+# Holds examples/ROW.profile and examples/ROW.question, and a profile that stands there alone, to examples/rows.txt: the records are made again from
+# what a reader sees there, and every byte is compared. No other profile or question may stand beside them, and a changed row has to be
+# seen.
 set -eu
 root=$(CDPATH='' cd -- "$(dirname -- "$0")/.." && pwd)
 work=$(mktemp -d)
@@ -59,6 +60,8 @@ records() {
                 for (i = 1; i <= n; i++) labels = labels label(name[i], c, c == 2 ? "@" : "")
             }
         }
+        # "# NAME.profile", a tab and the keys: a profile without a question
+        /^# [a-z]+\.profile\t/ { print substr($1, 3) labels keys($2) }
         /^#/ || /^$/ { next }
         {
             edition = sub(/, edition 2$/, "", $3) ? record(6, byte(2)) : ""
@@ -84,7 +87,7 @@ files() {
 records "$root/examples/rows.txt" | sort >"$work/wanted"
 files >"$work/found"
 diff "$work/wanted" "$work/found" || { echo "rows: the files in examples/ are not what rows.txt says" >&2; exit 1; }
-[ "$(wc -l <"$work/found")" -ge 26 ] || { echo "rows: only $(wc -l <"$work/found") files" >&2; exit 1; }
+[ "$(wc -l <"$work/found")" -ge 27 ] || { echo "rows: only $(wc -l <"$work/found") files" >&2; exit 1; }
 # one path of one row changed
 sed 's/^b\(.*\)@seq/b\1@id/' "$root/examples/rows.txt" >"$work/rows.txt"
 records "$work/rows.txt" | sort >"$work/changed"

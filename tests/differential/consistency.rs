@@ -5,6 +5,7 @@ use crate::reference::generate::*;
 use crate::reference::operations::*;
 use crate::reference::random::Random;
 use crate::reference::records::*;
+use crate::reference::reduce::{is_implied, reduction, without};
 use crate::reference::refute::search;
 use crate::reference::rules::follows;
 use crate::reference::trees::Tree;
@@ -17,12 +18,15 @@ const SMALL_TREE: usize = 14;
 const KEYS_BY_DEFINITION: usize = 3;
 /// Of so many questions one tree at least has to break a key, and one proof to become shorter: what nobody finds is not compared.
 const QUESTIONS_TO_A_FIND: usize = 10;
+/// Of so many questions' profiles one key at least has to be dropped.
+const QUESTIONS_TO_A_DROPPED_KEY: usize = 2;
 
-/// What was compared: first witnesses, and proofs that trimming made shorter.
+/// What was compared: first witnesses, proofs that trimming made shorter, keys that reducing dropped.
 #[derive(Default)]
 struct Finds {
     witnesses: usize,
     shorter: usize,
+    dropped: usize,
 }
 
 pub fn is_consistent(seed: u64, count: usize) -> bool {
@@ -34,6 +38,7 @@ pub fn is_consistent(seed: u64, count: usize) -> bool {
         let asked = asked(&mut random);
         let found = trees_and_lines(&mut random, &asked, &mut finds)
             .and_then(|_| trimming(&mut random, &asked, &mut finds))
+            .and_then(|_| lean_profile(&mut random, &asked, &mut finds.dropped))
             .and_then(|_| decision(&mut random, &asked));
         if let Err(fault) = &found {
             failed += 1;
@@ -42,10 +47,13 @@ pub fn is_consistent(seed: u64, count: usize) -> bool {
         *counts.entry(found.unwrap_or_else(|fault| fault)).or_insert(0) += 1;
     }
     let list: Vec<String> = counts.iter().map(|(name, count)| format!("{} {}", name, count)).collect();
-    let Finds { witnesses, shorter } = finds;
+    let Finds { witnesses, shorter, dropped } = finds;
     println!("the reference itself: {} questions, {} fail: {}", count, failed, list.join(" · "));
-    println!("the reference itself: {} first witnesses, {} proofs made shorter", witnesses, shorter);
-    failed == 0 && witnesses.min(shorter) >= count / QUESTIONS_TO_A_FIND
+    println!(
+        "the reference itself: {} first witnesses, {} proofs made shorter, {} dropped keys",
+        witnesses, shorter, dropped
+    );
+    failed == 0 && witnesses.min(shorter) >= count / QUESTIONS_TO_A_FIND && dropped >= count / QUESTIONS_TO_A_DROPPED_KEY
 }
 
 /// Rewriting changes nothing, a written tree is read, value equality by numbers, the fast tree test and the fast search for the first
@@ -86,6 +94,38 @@ fn trees_and_lines(random: &mut Random, asked: &Asked, finds: &mut Finds) -> Res
         if keeps_profile && !table.keeps(&line.key) {
             return Err(format!("a tree keeps the profile and breaks a line of rule {}", line.rule));
         }
+    }
+    Ok(())
+}
+
+/// 02, request 3: none of the kept keys follows from the others that are kept, reducing again changes nothing, each dropped key has a
+/// proof from the kept ones, and a tree keeps all keys exactly when it keeps those. Counts the dropped keys.
+fn lean_profile(random: &mut Random, asked: &Asked, count: &mut usize) -> Result<(), String> {
+    let profile = related(random, asked);
+    let (reduced, dropped) = reduction(&profile);
+    *count += dropped.len();
+    if (0..reduced.keys.len()).any(|n| is_implied(&reduced.keys[n], &without(&reduced, n))) {
+        return Err("a kept key follows from the other kept ones".to_string());
+    }
+    let (bytes, written) = (write_profile(&profile), write_profile(&reduced));
+    if reduce(&bytes, ANSWER_BYTES) != Ok((written.clone(), dropped.clone())) {
+        return Err("the reduced profile is not what is written".to_string());
+    }
+    if reduce(&written, ANSWER_BYTES) != Ok((written.clone(), Vec::new())) {
+        return Err("reducing the reduced profile changes it".to_string());
+    }
+    for n in 0..=profile.keys.len() {
+        let found = prove_dropped(&bytes, n, ANSWER_BYTES).map_err(|_| "a good profile is refused".to_string())?;
+        let is_proved = |key: &Key| check_proof(&written, &key_record(key), &found) == Ok(());
+        if dropped.contains(&n) != profile.keys.get(n).map_or(false, is_proved) || dropped.contains(&n) == found.is_empty() {
+            return Err("the proof of a dropped key is refused, or one that is kept has a proof".to_string());
+        }
+    }
+    let nodes = tree_of_edition(random, &asked.world, SMALL_TREE, NODE_KIND);
+    let table = Tree::new(&nodes, &profile.classes);
+    let keeps = |profile: &Profile| profile.keys.iter().all(|key| table.keeps(key));
+    if keeps(&profile) != keeps(&reduced) {
+        return Err("a tree tells the reduced profile from the old one".to_string());
     }
     Ok(())
 }

@@ -5,7 +5,7 @@ use std::collections::BTreeMap;
 
 /// The operations that the program `replay` has: each of their cases is compared. Those of another
 /// operation may all be answered `not here`; they are counted apart and compared with nothing.
-pub const PRESENT: [u8; 9] = [REWRITE, BODY, INCLUDE, KEEP, CHECK_PROOF, CHECK_TREE, DECIDE, LIST, TRIM];
+pub const PRESENT: [u8; 11] = [REWRITE, BODY, INCLUDE, KEEP, CHECK_PROOF, CHECK_TREE, DECIDE, LIST, REDUCE, DROPPED_PROOF, TRIM];
 pub const NOT_HERE: &str = "not here";
 
 /// A run of so many cases has to meet the minimums; a shorter one only prints what it saw.
@@ -13,7 +13,9 @@ pub const WHOLE_RUN: usize = 200_000;
 
 /// So often each operation and each verdict has to be seen.
 pub const LEAST: usize = 10_000;
-const VERDICTS: [(u8, &str); 12] = [
+/// The operations of request 3 search once for each key: fewer of them.
+const LEAST_REDUCED: usize = 1_000;
+const VERDICTS: [(u8, &str); 16] = [
     (REWRITE, "rewritten"),
     (BODY, "body"),
     (INCLUDE, "included"),
@@ -25,14 +27,22 @@ const VERDICTS: [(u8, &str); 12] = [
     (DECIDE, "implied"),
     (DECIDE, "not implied"),
     (LIST, "listed"),
+    (REDUCE, "reduced"),
+    (REDUCE, "reduced none"),
+    (DROPPED_PROOF, "proof"),
+    (DROPPED_PROOF, "proof (empty)"),
     (TRIM, "trimmed"),
 ];
 
 /// Every refusal that an operation can give, by input and numbers (01, "Refusal numbers"). Each has to be
 /// seen, and no other: 11 is retired, a body lookup refuses nothing, 7 never has input 2.
 const REFUSALS: [(&[u8], u32, &[u32]); 9] = [
-    (&[REWRITE, DECIDE, LIST, TRIM], ANSWER, &[14]),
-    (&[REWRITE, INCLUDE, KEEP, CHECK_PROOF, CHECK_TREE, DECIDE, LIST, TRIM], PROFILE, &[1, 2, 3, 4, 5, 6, 7, 15]),
+    (&[REWRITE, DECIDE, LIST, REDUCE, DROPPED_PROOF, TRIM], ANSWER, &[14]),
+    (
+        &[REWRITE, INCLUDE, KEEP, CHECK_PROOF, CHECK_TREE, DECIDE, LIST, REDUCE, DROPPED_PROOF, TRIM],
+        PROFILE,
+        &[1, 2, 3, 4, 5, 6, 7, 15],
+    ),
     (&[KEEP, CHECK_PROOF, CHECK_TREE, DECIDE, TRIM], QUESTION, &[1, 2, 4, 5, 6]),
     (&[INCLUDE], QUESTION, &[4, 6]),
     (&[INCLUDE], TREE_OR_PROOF, &[4, 6]),
@@ -42,6 +52,14 @@ const REFUSALS: [(&[u8], u32, &[u32]); 9] = [
     (&[CHECK_TREE], TREE_OR_PROOF, &[13]),
 ];
 
+/// How often an operation, and each verdict of it, has to be seen.
+fn least(operation: u8) -> usize {
+    match operation {
+        REDUCE | DROPPED_PROOF => LEAST_REDUCED,
+        _ => LEAST,
+    }
+}
+
 /// What a case came to: its verdict without the bytes used, or the refusal's number and input.
 pub fn outcome(case: &Case, answer: &Answer) -> String {
     let words: Vec<&str> = answer.line.split(' ').collect();
@@ -50,15 +68,20 @@ pub fn outcome(case: &Case, answer: &Answer) -> String {
         "not" => 2,
         _ => 1,
     };
-    let empty = if case.operation == BODY && answer.bytes.is_empty() { " (empty)" } else { "" };
-    format!("{}{}", words[..kept.min(words.len())].join(" "), empty)
+    let more = match case.operation {
+        BODY if answer.bytes.is_empty() => " (empty)",
+        DROPPED_PROOF if words[0] == "proof" && answer.bytes.is_empty() => " (empty)",
+        REDUCE if words.get(1) == Some(&"-") => " none",
+        _ => "",
+    };
+    format!("{}{}", words[..kept.min(words.len())].join(" "), more)
 }
 
 /// Each outcome that a whole run has to see, and how often.
 fn minimums() -> BTreeMap<(u8, String), usize> {
     let mut all = BTreeMap::new();
     for (operation, verdict) in VERDICTS {
-        all.insert((operation, verdict.to_string()), LEAST);
+        all.insert((operation, verdict.to_string()), least(operation));
     }
     for (operations, input, numbers) in REFUSALS {
         for (&operation, number) in operations.iter().flat_map(|each| numbers.iter().map(move |number| (each, number))) {
@@ -128,8 +151,8 @@ impl Tally {
                 all.push(format!("{} {}: 01 has no such refusal", OPERATIONS[outcome.0 as usize], outcome.1));
             }
         }
-        for &operation in PRESENT.iter().filter(|&&each| self.agreeing[each as usize] < LEAST) {
-            all.push(format!("{}: fewer than {} cases", OPERATIONS[operation as usize], LEAST));
+        for &operation in PRESENT.iter().filter(|&&each| self.agreeing[each as usize] < least(each)) {
+            all.push(format!("{}: fewer than {} cases", OPERATIONS[operation as usize], least(operation)));
         }
         all
     }

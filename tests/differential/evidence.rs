@@ -1,8 +1,9 @@
-//! The second pass: the evidence that `replay` wrote for its decisions goes through its own checkers and
-//! through the reference's, and trees are tried against each answer `implied`.
+//! The second pass: the evidence that `replay` wrote for its decisions and for dropped keys goes through its own checkers and through the
+//! reference's, and trees are tried against each answer `implied` and each dropped key.
 use crate::counts::{LEAST, PRESENT, WHOLE_RUN};
 use crate::files::Differences;
 use crate::reference::cases::{cases, Cases};
+use crate::reference::operations::dropped_question;
 use crate::reference::random::Random;
 use crate::reference::records::*;
 use crate::reference::refute::search;
@@ -10,7 +11,8 @@ use crate::reference::stream::*;
 use std::fs::File;
 use std::io::{BufRead, BufReader};
 
-/// The check cases of a run: for each answer `implied` its proof, for each `not implied` its tree.
+/// The check cases of a run: for each answer `implied` its proof, for each `not implied` its tree, and for each dropped key its proof,
+/// with the reduced profile and that key's record.
 pub struct EvidenceCases {
     cases: Cases,
     answers: BufReader<File>,
@@ -25,11 +27,21 @@ pub fn evidence_cases(seed: u64, count: usize, found: &str) -> std::io::Result<E
     Ok(EvidenceCases { cases: cases(seed, count), answers: BufReader::new(File::open(found)?), seed, least })
 }
 
-fn check_of(decision: &Answer) -> Option<u8> {
-    if decision.line.starts_with("implied ") {
-        return Some(CHECK_PROOF);
+/// The check of what was answered to a case; none where that has no evidence.
+fn check_of(case: Case, found: Answer) -> Option<Case> {
+    let Case { operation, number, room, inputs: [profile, question, _] } = case;
+    let check = |operation: u8, profile: Vec<u8>, question: Vec<u8>| {
+        Some(Case { operation, number: 0, room, inputs: [profile, question, found.bytes.clone()] })
+    };
+    match operation {
+        DECIDE if found.line.starts_with("implied ") => check(CHECK_PROOF, profile, question),
+        DECIDE if found.line.starts_with("not implied ") => check(CHECK_TREE, profile, question),
+        DROPPED_PROOF if !found.bytes.is_empty() => {
+            let (reduced, key) = dropped_question(&profile, number as usize)?;
+            check(CHECK_PROOF, reduced, key)
+        }
+        _ => None,
     }
-    Some(CHECK_TREE).filter(|_| decision.line.starts_with("not implied "))
 }
 
 impl Iterator for EvidenceCases {
@@ -38,10 +50,9 @@ impl Iterator for EvidenceCases {
     fn next(&mut self) -> Option<Case> {
         loop {
             let case = self.cases.next()?;
-            let decision = read_answer(&mut self.answers)?;
-            if let Some(operation) = check_of(&decision).filter(|_| case.operation == DECIDE) {
-                let [profile, question, _] = case.inputs;
-                return Some(Case { operation, number: 0, room: case.room, inputs: [profile, question, decision.bytes] });
+            let found = read_answer(&mut self.answers)?;
+            if let Some(check) = check_of(case, found) {
+                return Some(check);
             }
         }
     }
@@ -121,7 +132,7 @@ fn print_seen(seen: &Seen, faults: usize) {
     if !PRESENT.contains(&DECIDE) {
         println!("replay does not have decide yet");
     }
-    println!("{} proofs and {} trees that decide wrote, each through replay's checker and the reference's", seen.proofs, seen.trees);
+    println!("{} proofs and {} trees that replay wrote, each through replay's checker and the reference's", seen.proofs, seen.trees);
     println!(
         "{} trees tried against answers `implied`: {} break the question, {} of these keep the profile",
         seen.tried, seen.breaking, seen.refuting

@@ -98,6 +98,8 @@ fn commands(folder: &str, case: &Case) -> String {
         CHECK_PROOF => format!("checker proof {} {} {}", profile, second, third),
         CHECK_TREE => format!("checker tree {} {} {}", profile, second, third),
         DECIDE => format!("decide {} {} {}/out", profile, second, folder),
+        REDUCE => format!("lean reduce {} {}/out", profile, folder),
+        DROPPED_PROOF => format!("lean proof {} {} {}/out", profile, case.number, folder),
         TRIM => format!("trim {} {} {} {}/out", profile, second, third, folder),
         _ => "list <tree".to_string(),
     };

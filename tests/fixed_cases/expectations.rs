@@ -11,6 +11,8 @@ pub enum Wanted {
     Bytes(String, Vec<u8>),
     /// `implied` and a proof that the proof check accepts.
     Implied,
+    /// `proof` and a proof that the proof check accepts for this profile and question.
+    Proof(Vec<u8>, Vec<u8>),
     /// `not implied`, so many bytes, and a tree that the counterexample check accepts.
     NotImplied(usize),
 }
@@ -49,10 +51,19 @@ impl Cases {
         self.add(name, case, wanted);
     }
 
+    /// A case that wants the proof of a dropped key, which is checked against the reduced profile with that key as the question.
+    pub fn put_proof(&mut self, name: &str, case: Case, reduced: &[u8], question: &[u8]) {
+        self.add(name, case, Wanted::Proof(reduced.to_vec(), question.to_vec()));
+    }
+
     /// A case that wants these bytes after the word and their number.
     pub fn put_bytes(&mut self, name: &str, case: Case, word: &str, bytes: &[u8]) {
         self.add(name, case, Wanted::Bytes(format!("{} {}", word, bytes.len()), bytes.to_vec()));
     }
+}
+
+fn refused_proof(profile: &[u8], question: &[u8], proof: &[u8]) -> Result<(), String> {
+    check_proof(profile, question, proof).map_err(|refusal| format!("the proof is refused: {:?}", refusal))
 }
 
 fn evidence(case: &Case, answer: &Answer) -> Result<(), String> {
@@ -84,6 +95,8 @@ pub fn meets(case: &Case, wanted: &Wanted, found: &Answer) -> Result<(), String>
         Wanted::Line(_) if !found.bytes.is_empty() => return Err(format!("{} bytes after `{}`", found.bytes.len(), found.line)),
         Wanted::Bytes(_, bytes) if found.bytes != *bytes => return Err(first_difference(bytes, &found.bytes)),
         Wanted::Implied if found.line != format!("implied {}", found.bytes.len()) => return differs("implied .."),
+        Wanted::Proof(_, _) if found.line != format!("proof {}", found.bytes.len()) => return differs("proof .."),
+        Wanted::Proof(profile, question) => return refused_proof(profile, question, &found.bytes),
         Wanted::NotImplied(bytes) if found.line != format!("not implied {}", bytes) => {
             return differs(&format!("not implied {}", bytes));
         }
@@ -117,6 +130,7 @@ pub fn changed(wanted: &Wanted) -> Wanted {
             Wanted::Bytes(line.clone(), other)
         }
         Wanted::Implied => Wanted::NotImplied(66),
+        Wanted::Proof(_, _) => Wanted::Line("proof 0".to_string()),
         Wanted::NotImplied(bytes) => Wanted::NotImplied(bytes + 11),
     }
 }
@@ -139,7 +153,7 @@ fn other_line(line: &str) -> String {
 /// Whether the case notices both a changed expectation and, where evidence is wanted, a proof with another last byte.
 pub fn can_fail(fixed: &Fixed, found: &Answer) -> bool {
     let mut other = found.clone();
-    if let (Wanted::Implied, Some(last)) = (&fixed.wanted, other.bytes.last_mut()) {
+    if let (Wanted::Implied | Wanted::Proof(_, _), Some(last)) = (&fixed.wanted, other.bytes.last_mut()) {
         *last ^= 1;
         if meets(&fixed.case, &fixed.wanted, &other).is_ok() {
             return false;

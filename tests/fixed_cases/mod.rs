@@ -10,6 +10,7 @@ mod decisions;
 mod doubled;
 mod drawn;
 mod editions;
+mod lean;
 mod lines;
 mod listings;
 mod nodes;
@@ -26,7 +27,7 @@ use expectations::{Cases, Fixed};
 /// All cases; each name is used once, so that a difference names its case.
 pub fn all() -> Vec<Fixed> {
     let mut found = Vec::new();
-    let topics: [(&'static str, &[fn(&mut Cases)]); 8] = [
+    let topics: [(&'static str, &[fn(&mut Cases)]); 9] = [
         ("inputs", &[profiles::put, order::put, nodes::put, lines::put, bodies_and_paths::put, cuts::put]),
         ("trees", &[trees::put, listings::put]),
         ("checks", &[rules::put, proofs::put, counterexamples::put]),
@@ -34,6 +35,7 @@ pub fn all() -> Vec<Fixed> {
         ("editions", &[editions::put]),
         ("doubled keys", &[doubled::put]),
         ("witnesses", &[witnesses::put]),
+        ("lean profiles", &[lean::put]),
         ("trimmed proofs", &[trimmings::put]),
     ];
     for (topic, parts) in topics.iter() {

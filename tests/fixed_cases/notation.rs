@@ -203,6 +203,14 @@ pub fn list(profile: &[u8], tree: &[u8], block: u32) -> Case {
     case(LIST, block, [profile, &[], tree])
 }
 
+pub fn reduce(profile: &[u8]) -> Case {
+    case(REDUCE, 0, [profile, &[], &[]])
+}
+
+pub fn prove_dropped(profile: &[u8], n: u32) -> Case {
+    case(DROPPED_PROOF, n, [profile, &[], &[]])
+}
+
 pub fn trim(profile: &[u8], question: &[u8], proof: &[u8]) -> Case {
     case(TRIM, 0, [profile, question, proof])
 }

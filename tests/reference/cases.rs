@@ -50,6 +50,7 @@ fn fixed_cases() -> Vec<Case> {
     editions(&mut all);
     doubled_keys(&mut all);
     many_witnesses(&mut all);
+    lean_profiles(&mut all);
     all
 }
 
@@ -83,6 +84,7 @@ fn examples(all: &mut Vec<Case>) {
         all.push(case(KEEP, &profile, &question, &evidence));
         all.push(case(LIST, &profile, &[], &evidence));
         all.push(case(REWRITE, &profile, &[], &[]));
+        all.push(case(REDUCE, &profile, &[], &[]));
         for number in 0..10 {
             all.push(Case { number, ..case(BODY, &profile, &[], &[]) });
         }
@@ -127,7 +129,6 @@ fn interactions(all: &mut Vec<Case>, base: &[u8]) {
             let last = Line { rule: 9, first: one, second: two, key: new.clone() };
             let proof = write_proof(&[cite(0, &first), cite(1, &second), last]);
             all.push(case(CHECK_PROOF, &profile, &key_record(&new), &proof));
-            all.push(case(TRIM, &profile, &key_record(&new), &proof));
         }
     }
 }
@@ -180,7 +181,9 @@ fn profile_limits(all: &mut Vec<Case>) {
     for profile in &profiles {
         every_operation(all, profile);
         all.push(Case { number: 1_000, ..case(BODY, profile, &[], &[]) });
-        all.push(Case { room: ROOM - 1, ..case(REWRITE, profile, &[], &[]) });
+        for operation in [REWRITE, REDUCE, DROPPED_PROOF] {
+            all.push(Case { room: ROOM - 1, ..case(operation, profile, &[], &[]) });
+        }
     }
     for tail in [&[][..], &[9], &[4, 0, 2, 0], &[4, 0, 9, 0], &[255, 255, 2, 0]] {
         all.push(case(DECIDE, &base, &[key_record(&key_of(1, 1, &[0])), tail.to_vec()].concat(), &[]));
@@ -202,6 +205,8 @@ fn every_operation(all: &mut Vec<Case>, profile: &[u8]) {
     all.push(case(CHECK_TREE, profile, &question, &root));
     all.push(case(DECIDE, profile, &key_record(&key_of(1, 1, &[0])), &[]));
     all.push(case(LIST, profile, &[], &root));
+    all.push(case(REDUCE, profile, &[], &[]));
+    all.push(case(DROPPED_PROOF, profile, &[], &[]));
     all.push(case(TRIM, profile, &question, &proof));
 }
 
@@ -413,6 +418,36 @@ fn many_witnesses(all: &mut Vec<Case>) {
     }
 }
 
+/// Keys of the bench that follow from each other, and a fourth that gives all of them, or that follows in edition 2 alone: in every
+/// order, in both editions, with each key's proof and that of numbers that are no key.
+fn lean_profiles(all: &mut Vec<Case>) {
+    let three = ["(e,(port.frame,{@seq}))", "(port,(frame,{@seq}))", "(e,(port,{frame.@seq}))"];
+    for fourth in ["(e,(_*.frame,{@seq}))", "(run,(@id,{e}))"] {
+        for order in orders(three.len() + 1) {
+            let keys: Vec<&str> = order.iter().map(|&at| three.get(at).copied().unwrap_or(fourth)).collect();
+            for edition in [FIRST_EDITION, SECOND_EDITION] {
+                reduce_and_prove(all, &bench_profile_of(edition, &keys));
+            }
+        }
+    }
+}
+
+fn reduce_and_prove(all: &mut Vec<Case>, profile: &[u8]) {
+    all.push(case(REDUCE, profile, &[], &[]));
+    for number in [0, 1, 2, 3, 4, u32::MAX] {
+        all.push(Case { number, ..case(DROPPED_PROOF, profile, &[], &[]) });
+    }
+}
+
+/// All orders of so many numbers.
+fn orders(count: usize) -> Vec<Vec<usize>> {
+    if count == 0 {
+        return vec![Vec::new()];
+    }
+    let put_last = |order: Vec<usize>| (0..count).map(move |at| [&order[..at], &[count - 1], &order[at..]].concat());
+    orders(count - 1).into_iter().flat_map(put_last).collect()
+}
+
 fn in_both_editions(all: &mut Vec<Case>, profile: &[u8]) {
     for front in [Vec::new(), edition_record(SECOND_EDITION)] {
         every_operation(all, &[&front, profile].concat());
@@ -447,17 +482,19 @@ fn tenth_rule(all: &mut Vec<Case>, profile: &[u8]) {
 
 type Maker = fn(&mut Random, &Asked) -> Case;
 
-/// How many of 113 random cases each maker makes: as many as give each verdict its minimum
+/// How many of 117 random cases each maker makes: as many as give each verdict its minimum
 /// (differential/counts.rs), and more where cases that look right go wrong.
-const SHARES: [(usize, Maker); 9] = [
+const SHARES: [(usize, Maker); 11] = [
     (6, rewrite_case),
     (9, body_case),
-    (14, include_case),
+    (13, include_case),
     (13, tree_case),
     (7, list_case),
     (9, derivation_case),
     (31, evidence_case),
     (15, decide_case),
+    (2, reduce_case),
+    (3, dropped_proof_case),
     (9, trim_case),
 ];
 
@@ -538,6 +575,16 @@ fn trim_case(random: &mut Random, asked: &Asked) -> Case {
 
 fn decide_case(_: &mut Random, asked: &Asked) -> Case {
     case(DECIDE, &profile_of(asked), &key_record(&asked.question), &[])
+}
+
+fn reduce_case(random: &mut Random, asked: &Asked) -> Case {
+    case(REDUCE, &write_profile(&related(random, asked)), &[], &[])
+}
+
+/// Each number of a key, and the first that is none.
+fn dropped_proof_case(random: &mut Random, asked: &Asked) -> Case {
+    let profile = related(random, asked);
+    Case { number: random.below(profile.keys.len() + 1) as u32, ..case(DROPPED_PROOF, &write_profile(&profile), &[], &[]) }
 }
 
 /// The reference's own evidence, sometimes with one value, label or line changed.

@@ -252,6 +252,30 @@ pub fn asked(random: &mut Random) -> Asked {
     Asked { world, profile, question }
 }
 
+/// A search for each key is dear, so few of the keys are taken, and now and then more.
+const FEW_KEYS: usize = 5;
+const MORE_KEYS: usize = 24;
+
+/// A profile of keys that follow from each other: some of those near the question, the question itself, and for some of them a key
+/// with wider paths, from which it follows; anywhere among them.
+pub fn related(random: &mut Random, asked: &Asked) -> Profile {
+    let mut profile = asked.profile.clone();
+    profile.keys.truncate(if random.chance(1, 50) { MORE_KEYS } else { FEW_KEYS });
+    let mut more = vec![asked.question.clone()];
+    for key in &profile.keys {
+        if random.chance(1, 4) {
+            more.push(Key { context: wider(random, &key.context), target: wider(random, &key.target), paths: key.paths.clone() });
+        }
+    }
+    for key in more {
+        if is_good(&key, &profile.classes) && !profile.keys.contains(&key) && random.chance(3, 4) {
+            let at = random.below(profile.keys.len() + 1);
+            profile.keys.insert(at, key);
+        }
+    }
+    profile
+}
+
 /// Half of the trees have records of each kind.
 pub fn node_kind(random: &mut Random) -> u16 {
     random.one_of(&NODE_KINDS)

@@ -4,7 +4,7 @@
 //!
 //! paths: words, joins, validity, inclusion · records: the inputs, checked from the front ·
 //! trees: value equality, keys kept · witness: why a key is broken · rules: proof lines · decide: pattern, verdict, evidence ·
-//! listing: blocks of lines · trim: shorter proofs · operations: the public operations with all refusals in 01's order ·
+//! reduce: lean profiles · listing: blocks of lines · trim: shorter proofs · operations: the public operations with all refusals in 01's order ·
 //! generate, damage, derivations: random and damaged inputs · refute: trees against an implied question ·
 //! cases, stream: the cases of a run and their frames.
 #![allow(dead_code)]
@@ -21,6 +21,7 @@ pub mod operations;
 pub mod paths;
 pub mod random;
 pub mod records;
+pub mod reduce;
 pub mod refute;
 pub mod rules;
 pub mod stream;
@@ -37,17 +38,23 @@ static WRONG: AtomicUsize = AtomicUsize::new(0);
 
 /// What each wrong line does, by its number less one, and the operations of whose answers in the
 /// stream of seed 1 it changes some.
-pub const WRONG_LINES: [(&[u8], &str); 23] = [
-    (&[INCLUDE, KEEP, CHECK_PROOF, CHECK_TREE, DECIDE, TRIM], "membership: an any-path consumes at least one label"),
+pub const WRONG_LINES: [(&[u8], &str); 25] = [
+    (
+        &[INCLUDE, KEEP, CHECK_PROOF, CHECK_TREE, DECIDE, REDUCE, DROPPED_PROOF, TRIM],
+        "membership: an any-path consumes at least one label",
+    ),
     (&[INCLUDE], "inclusion: 201 and 202 are left out of the labels"),
     (&[KEEP, CHECK_TREE], "value equality: attributes and other children are one list"),
     (&[KEEP, CHECK_TREE], "tree test: two targets need only one key path in common"),
     (&[CHECK_PROOF, DECIDE, TRIM], "rule 8 wants two key paths in the premise"),
     (&[CHECK_PROOF, TRIM], "rule 9 does not look at the second premise's context"),
-    (&[DECIDE], "pattern: with the empty path, t alone is marked and not what lies below"),
+    (&[DECIDE, REDUCE, DROPPED_PROOF], "pattern: with the empty path, t alone is marked and not what lies below"),
     (&[DECIDE], "u is the highest node that leads to q, not the lowest"),
     (&[DECIDE], "second copy: the filler attribute of a marked node keeps its own number"),
-    (&[REWRITE, INCLUDE, KEEP, CHECK_PROOF, CHECK_TREE, DECIDE, LIST, TRIM], "records: 5 is given before 4"),
+    (
+        &[REWRITE, INCLUDE, KEEP, CHECK_PROOF, CHECK_TREE, DECIDE, LIST, REDUCE, DROPPED_PROOF, TRIM],
+        "records: 5 is given before 4",
+    ),
     (&[LIST], "listing: a block has 1,023 lines"),
     (&[CHECK_TREE], "counterexample check: the first profile key alone is tried"),
     (&[BODY], "body: the first record has number 1"),
@@ -55,12 +62,17 @@ pub const WRONG_LINES: [(&[u8], &str); 23] = [
     (&[KEEP, CHECK_TREE], "value equality: values compared in their low two bytes"),
     (&[CHECK_PROOF, TRIM], "rule 10 in edition 1"),
     (&[KEEP, CHECK_TREE, LIST], "16 only for declared labels: 202 may be repeated"),
-    (&[DECIDE], "pattern of edition 2: an attribute steps to its parent only if that is q"),
-    (&[REWRITE, BODY, INCLUDE, KEEP, CHECK_PROOF, CHECK_TREE, DECIDE, LIST, TRIM], "15 looks at the key before alone"),
+    (&[DECIDE, REDUCE], "pattern of edition 2: an attribute steps to its parent only if that is q"),
+    (
+        &[REWRITE, BODY, INCLUDE, KEEP, CHECK_PROOF, CHECK_TREE, DECIDE, LIST, REDUCE, DROPPED_PROOF, TRIM],
+        "15 looks at the key before alone",
+    ),
     (&[KEEP, CHECK_TREE], "witness: the nearest context"),
     (&[KEEP, CHECK_TREE], "witness: pairs in the order of the way down"),
     (&[TRIM], "trimming: premises are not pointed to the earliest"),
     (&[TRIM], "trimming: ends at the last line with the question's key"),
+    (&[REDUCE, DROPPED_PROOF], "reduction: from the first key to the last"),
+    (&[REDUCE, DROPPED_PROOF], "reduction: a key is asked of the kept ones behind it alone, those before it are forgotten"),
 ];
 
 pub fn choose_wrong_line(number: usize) {

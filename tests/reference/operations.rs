@@ -4,6 +4,7 @@ use super::decide::{counterexample, proof, verdict, Pattern, Verdict};
 use super::listing::block;
 use super::paths::is_included;
 use super::records::*;
+use super::reduce::{dropped_key, dropped_proof, reduction};
 use super::rules::follows;
 use super::trees::Tree;
 use super::trim::trimmed;
@@ -135,4 +136,25 @@ pub fn list(profile: &[u8], tree: &[u8], k: u64, answer: usize) -> Result<Vec<u8
     let profile = read_profile(profile)?;
     let nodes = read_tree(tree, &profile)?;
     Ok(block(&nodes, &profile.classes, k))
+}
+
+/// The reduced profile, written, and the numbers of the dropped keys (02, request 3).
+pub fn reduce(profile: &[u8], answer: usize) -> Result<(Vec<u8>, Vec<usize>), Refusal> {
+    check_answer(answer)?;
+    let (reduced, dropped) = reduction(&read_profile(profile)?);
+    Ok((write_profile(&reduced), dropped))
+}
+
+/// A proof of the dropped key n from the final keys: "for a number not dropped a call gives 0 bytes".
+pub fn prove_dropped(profile: &[u8], n: usize, answer: usize) -> Result<Vec<u8>, Refusal> {
+    check_answer(answer)?;
+    let found = dropped_key(&read_profile(profile)?, n);
+    Ok(found.map_or(Vec::new(), |(reduced, key)| write_proof(&dropped_proof(&reduced, &key))))
+}
+
+/// What the proof of the dropped key n is checked against: the reduced profile, and the key's record as the question; none for
+/// a number that was not dropped.
+pub fn dropped_question(profile: &[u8], n: usize) -> Option<(Vec<u8>, Vec<u8>)> {
+    let (reduced, key) = dropped_key(&read_profile(profile).ok()?, n)?;
+    Some((write_profile(&reduced), key_record(&key)))
 }

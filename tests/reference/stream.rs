@@ -1,11 +1,12 @@
 //! Cases of the public operations as a stream of frames, and their answers as a stream of lines.
 //!
 //! A frame: operation (1 byte), then, 4 bytes each and little-endian, number (record of a body, block of
-//! a listing), room (size of the answer buffer that is lent), three lengths; then the three inputs:
+//! a listing, key of a dropped proof), room (size of the answer buffer that is lent), three lengths; then the three inputs:
 //! profile; question or first path; tree, proof or second path.
 //!
 //! An answer: a line, the same that the programs print (`refused N I R`, `implied BYTES`, `kept`, `broken Q A B X Y ..`, ..),
-//! with `body BYTES` and `listed BYTES` besides; where it ends in BYTES, so many raw bytes follow.
+//! with `body BYTES`, `listed BYTES` and `reduced 0,2 BYTES` besides (the numbers of the dropped keys, `-` for none); where it ends in
+//! BYTES, so many raw bytes follow.
 use super::operations::*;
 use super::records::Refusal;
 use super::witness::Witness;
@@ -19,10 +20,12 @@ pub const CHECK_PROOF: u8 = 5;
 pub const CHECK_TREE: u8 = 6;
 pub const DECIDE: u8 = 7;
 pub const LIST: u8 = 8;
-/// 9 to 12 are kept for the requests 1 and 3.
+pub const REDUCE: u8 = 11;
+pub const DROPPED_PROOF: u8 = 12;
 pub const TRIM: u8 = 13;
+/// By number; one that is not taken has no name.
 pub const OPERATIONS: [&str; 14] =
-    ["", "rewrite", "body", "include", "keep", "proof", "tree", "decide", "list", "", "", "", "", "trim"];
+    ["", "rewrite", "body", "include", "keep", "proof", "tree", "decide", "list", "", "", "reduce", "dropped proof", "trim"];
 
 #[derive(Clone)]
 pub struct Case {
@@ -55,7 +58,7 @@ pub fn write_answer(out: &mut dyn Write, answer: &Answer) -> std::io::Result<()>
 }
 
 /// Words of a line that ends in a number of bytes, which follow it.
-const WITH_BYTES: [&str; 6] = ["rewritten ", "body ", "listed ", "implied ", "not implied ", "trimmed "];
+pub const WITH_BYTES: [&str; 8] = ["rewritten ", "body ", "listed ", "implied ", "not implied ", "reduced ", "proof ", "trimmed "];
 
 /// The next answer of a stream; none where it ends or breaks off.
 pub fn read_answer(stream: &mut dyn BufRead) -> Option<Answer> {
@@ -84,6 +87,12 @@ fn word(line: &str) -> Answer {
 
 fn with_bytes(word: &str, bytes: Vec<u8>) -> Answer {
     Answer { line: format!("{} {}", word, bytes.len()), bytes }
+}
+
+/// The numbers of the dropped keys stand before the number of bytes (02, request 3).
+fn with_dropped((bytes, dropped): (Vec<u8>, Vec<usize>)) -> Answer {
+    let numbers: Vec<String> = dropped.iter().map(|number| number.to_string()).collect();
+    with_bytes(&format!("reduced {}", if numbers.is_empty() { "-".to_string() } else { numbers.join(",") }), bytes)
 }
 
 /// The words, and behind them the numbers of a witness (02, request 9).
@@ -117,6 +126,8 @@ pub fn answer(case: &Case) -> Answer {
         CHECK_PROOF => check_proof(a, b, c).map(|_| word("accepted")),
         CHECK_TREE => Ok(countered(check_counterexample(a, b, c))),
         LIST => list(a, c, number as u64, room).map(|bytes| with_bytes("listed", bytes)),
+        REDUCE => reduce(a, room).map(with_dropped),
+        DROPPED_PROOF => prove_dropped(a, number as usize, room).map(|bytes| with_bytes("proof", bytes)),
         TRIM => trim(a, b, c, room).map(|bytes| with_bytes("trimmed", bytes)),
         _ => decide(a, b, room).map(|decision| match decision {
             Decision::Implied(proof) => with_bytes("implied", proof),
@@ -126,13 +137,17 @@ pub fn answer(case: &Case) -> Answer {
     .unwrap_or_else(refused)
 }
 
-/// Whether an answer is right. Which accepted proof is written is open (01): of `implied` the proof is
-/// checked, of everything else each byte is compared.
+/// Whether an answer is right. Which accepted proof is written is open (01): of `implied` the proof is checked, and of a dropped key
+/// against the reduced profile; of everything else each byte is compared.
 pub fn is_right(case: &Case, found: &Answer) -> bool {
     let wanted = answer(case);
     if case.operation == DECIDE && wanted.line.starts_with("implied ") && found.line.starts_with("implied ") {
         let [profile, question, _] = &case.inputs;
         return check_proof(profile, question, &found.bytes) == Ok(());
+    }
+    if case.operation == DROPPED_PROOF && !wanted.bytes.is_empty() && found.line.starts_with("proof ") {
+        let question = dropped_question(&case.inputs[0], case.number as usize);
+        return question.map_or(false, |(reduced, key)| check_proof(&reduced, &key, &found.bytes) == Ok(()));
     }
     *found == wanted
 }

@@ -10,4 +10,5 @@ pub mod Refusals
 pub mod Pattern
 pub mod Listing
 pub mod Operations
+pub mod Reduction
 pub mod Trimming

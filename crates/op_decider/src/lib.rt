@@ -22,7 +22,7 @@ ghost use Rattle.op_answers.specs.Cases.{decidingAnswer};
 ghost use Rattle.read_inputs.specs.Accepted.{Given};
 
 // In edition 2 t, an attribute, steps to its parent u.
-fn steps_up(body: &[u8], u: usize, classes: &[u8; 256], second: bool) -> bool
+pub fn steps_up(body: &[u8], u: usize, classes: &[u8; 256], second: bool) -> bool
     requires { ⌜ (isSome (readKey (now body)) ≡ true) × (u < 65536) ⌝ }
     ensures { λ r. ⌜ r ≡ stepsUp second (classBy (now (classes .entry))) (keyIn (now (body .entry))) u ⌝ }
 {

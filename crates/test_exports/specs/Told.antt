@@ -2,8 +2,10 @@
 use Prim.Native.Nat.{ℕ}
 use mathlib.Core.Path.{_≡_}
 use mathlib.Core.List.{List}
-use Rattle.meaning.specs.Operations.{Rewrites, Includes, TestsTree, ChecksProof, ChecksCounterexample, Lists, Decides}
-use Rattle.op_answers.specs.Cases.{rewritingAnswer, inclusionAnswer, keepingAnswer, checkingAnswer, counteringAnswer, listingAnswer, decidingAnswer}
+use Rattle.meaning.specs.Operations.{Rewrites, Includes, TestsTree, ChecksProof, ChecksCounterexample, Lists, Decides, reduced, trimmed}
+use Rattle.meaning.specs.Reduction.{Reduces}
+use Rattle.meaning.specs.Trimming.{Trims}
+use Rattle.op_answers.specs.Cases.{rewritingAnswer, inclusionAnswer, keepingAnswer, checkingAnswer, counteringAnswer, listingAnswer, decidingAnswer, fillingAnswer}
 use Rattle.op_answers.specs.declared.Rewriting.{Rewriting}
 use Rattle.op_answers.specs.declared.Inclusion.{Inclusion}
 use Rattle.op_answers.specs.declared.Keeping.{Keeping}
@@ -11,7 +13,8 @@ use Rattle.op_answers.specs.declared.Checking.{Checking}
 use Rattle.op_answers.specs.declared.Countering.{Countering}
 use Rattle.op_answers.specs.declared.Listing.{Listing}
 use Rattle.op_answers.specs.declared.Deciding.{Deciding}
-use Rattle.test_exports.specs.Words.{rewritingWords, inclusionWords, keepingWords, checkingWords, counteringWords, listingWords, decidingWords}
+use Rattle.op_answers.specs.declared.Filling.{Filling}
+use Rattle.test_exports.specs.Words.{rewritingWords, inclusionWords, keepingWords, checkingWords, counteringWords, listingWords, decidingWords, fillingWords}
 
 pub record ToldRewriting (profile : List ℕ) (before : List ℕ) (after : List ℕ) (told : List ℕ) : Type 0 where
   pub answer : Rewriting
@@ -47,3 +50,15 @@ pub record ToldDeciding (profile : List ℕ) (question : List ℕ) (before : Lis
   pub answer : Deciding
   pub words : told ≡ decidingWords answer
   pub met : Decides profile question before (decidingAnswer answer after)
+
+-- the numbers of the dropped keys are not told
+pub record ToldReducing (profile : List ℕ) (before : List ℕ) (after : List ℕ) (told : List ℕ) : Type 0 where
+  pub answer : Filling
+  pub words : told ≡ fillingWords answer
+  pub dropped : List ℕ
+  pub met : Reduces profile before (fillingAnswer reduced answer after) dropped
+
+pub record ToldTrimming (profile : List ℕ) (question : List ℕ) (proof : List ℕ) (before : List ℕ) (after : List ℕ) (told : List ℕ) : Type 0 where
+  pub answer : Filling
+  pub words : told ≡ fillingWords answer
+  pub met : Trims profile question proof before (fillingAnswer trimmed answer after)

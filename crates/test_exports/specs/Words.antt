@@ -17,6 +17,8 @@ use Rattle.op_answers.specs.declared.Listing.{Listing}
 use Rattle.op_answers.specs.declared.Listing.the-variants as L
 use Rattle.op_answers.specs.declared.Deciding.{Deciding}
 use Rattle.op_answers.specs.declared.Deciding.the-variants as D
+use Rattle.op_answers.specs.declared.Filling.{Filling}
+use Rattle.op_answers.specs.declared.Filling.the-variants as F
 
 abbrev pub refusalWords : Refusal → List ℕ
 refusalWords r = 0 ∷ r .number ∷ r .input ∷ r .place ∷ []
@@ -59,3 +61,7 @@ abbrev pub decidingWords : Deciding → List ℕ
 decidingWords (D.Implied used) = caseWords 1 used
 decidingWords (D.NotImplied used) = caseWords 2 used
 decidingWords (D.Refused r) = refusalWords r
+
+abbrev pub fillingWords : Filling → List ℕ
+fillingWords (F.Filled used) = caseWords 1 used
+fillingWords (F.Refused r) = refusalWords r

@@ -5,18 +5,21 @@ mod words;
 use crate::words::of_checking;
 use crate::words::of_countering;
 use crate::words::of_deciding;
+use crate::words::of_filling;
 use crate::words::of_inclusion;
 use crate::words::of_keeping;
 use crate::words::of_listing;
 use crate::words::of_rewriting;
 use op_decide::decide;
+use op_lean::reduce;
 use op_list::list_block;
 use op_profile::inclusions::include;
 use op_profile::profiles::rewrite;
 use op_proof::check_proof;
 use op_tree::check_counterexample;
 use op_tree::keep;
-ghost use Rattle.test_exports.specs.Told.{ToldRewriting, ToldInclusion, ToldKeeping, ToldProof, ToldCounterexample, ToldListing, ToldDeciding};
+use op_trim::trim;
+ghost use Rattle.test_exports.specs.Told.{ToldRewriting, ToldInclusion, ToldKeeping, ToldProof, ToldCounterexample, ToldListing, ToldDeciding, ToldReducing, ToldTrimming};
 
 #[no_mangle]
 pub extern "C" fn bench_rewrite(profile: &[u8], answer: &mut [u8], told: &mut [usize; 4])
@@ -99,5 +102,30 @@ pub extern "C" fn bench_decide(
 {
     let found = decide(profile, question, answer);
     let words = of_deciding(found);
+    *told = words;
+}
+
+#[no_mangle]
+pub extern "C" fn bench_reduce(profile: &[u8], answer: &mut [u8], told: &mut [usize; 4])
+    ensures { λ _. ⌜ ToldReducing (now (profile .entry)) (now (answer .entry)) (now (answer .exit)) (now (told .exit)) ⌝ }
+{
+    let lean = reduce(profile, answer);
+    let found = lean.answer;
+    let words = of_filling(found);
+    *told = words;
+}
+
+#[no_mangle]
+pub extern "C" fn bench_trim(
+    profile: &[u8],
+    question: &[u8],
+    proof: &[u8],
+    answer: &mut [u8],
+    told: &mut [usize; 4],
+)
+    ensures { λ _. ⌜ ToldTrimming (now (profile .entry)) (now (question .entry)) (now (proof .entry)) (now (answer .entry)) (now (answer .exit)) (now (told .exit)) ⌝ }
+{
+    let found = trim(profile, question, proof, answer);
+    let words = of_filling(found);
     *told = words;
 }

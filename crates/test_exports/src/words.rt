@@ -2,12 +2,13 @@
 use op_answers::Checking;
 use op_answers::Countering;
 use op_answers::Deciding;
+use op_answers::Filling;
 use op_answers::Inclusion;
 use op_answers::Keeping;
 use op_answers::Listing;
 use op_answers::Rewriting;
 ghost use mathlib.Core.Path.{_≡_};
-ghost use Rattle.test_exports.specs.Words.{rewritingWords, inclusionWords, keepingWords, checkingWords, counteringWords, listingWords, decidingWords};
+ghost use Rattle.test_exports.specs.Words.{rewritingWords, inclusionWords, keepingWords, checkingWords, counteringWords, listingWords, decidingWords, fillingWords};
 
 const REFUSED: usize = 0;
 
@@ -89,5 +90,14 @@ pub fn of_deciding(answer: Deciding) -> [usize; 4]
         Deciding::Implied(used) => [FIRST_CASE, used, 0, 0],
         Deciding::NotImplied(used) => [SECOND_CASE, used, 0, 0],
         Deciding::Refused(refusal) => [REFUSED, refusal.number, refusal.input, refusal.place],
+    }
+}
+
+pub fn of_filling(answer: Filling) -> [usize; 4]
+    ensures { λ r. ⌜ r ≡ fillingWords answer ⌝ }
+{
+    match answer {
+        Filling::Filled(used) => [FIRST_CASE, used, 0, 0],
+        Filling::Refused(refusal) => [REFUSED, refusal.number, refusal.input, refusal.place],
     }
 }

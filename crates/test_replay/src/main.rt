@@ -16,6 +16,7 @@ use op_trim::trim;
 use program_files::print;
 use program_files::print_count;
 use program_files::print_refusal;
+use program_lean::print_dropped;
 use program_witness::print_countering;
 use program_witness::print_keeping;
 use test_frames::cases::Case;
@@ -42,6 +43,10 @@ const CHECK_TREE: u8 = 6;
 const DECIDE: u8 = 7;
 
 const LIST: u8 = 8;
+
+const REDUCE: u8 = 11;
+
+const DROPPED_PROOF: u8 = 12;
 
 const TRIM: u8 = 13;
 
@@ -114,8 +119,30 @@ fn filling(word: &[u8], answered: Filling, answer: &mut [u8]) {
     }
 }
 
+// The numbers of the dropped keys stand before the number of bytes.
+fn reduce(profile: &[u8], answer: &mut [u8]) {
+    let lean = op_lean::reduce(profile, answer);
+    let answered = lean.answer;
+    let dropped = lean.dropped;
+    match answered {
+        Filling::Refused(refusal) => refused(refusal, answer),
+        Filling::Filled(used) => {
+            print(b"reduced ");
+            print_dropped(dropped, lean.count);
+            filled(b"", used, answer);
+        }
+    }
+}
+
 // The operations of 02 that fill an answer buffer: one `if` for each.
 fn answer_request(case: Case, first: &[u8], second: &[u8], third: &[u8], answer: &mut [u8]) {
+    if case.operation == REDUCE {
+        return reduce(first, answer);
+    }
+    if case.operation == DROPPED_PROOF {
+        let proved = op_lean::prove_dropped(first, case.number, answer);
+        return filling(b"proof", proved, answer);
+    }
     if case.operation == TRIM {
         let trimmed = trim(first, second, third, answer);
         return filling(b"trimmed", trimmed, answer);

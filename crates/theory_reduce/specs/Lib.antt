@@ -1,0 +1,11 @@
+pub mod Lean
+pub mod Parts
+pub mod LeanProfile
+pub mod LeanAgain
+pub mod LeanUnique
+pub mod LeanAnswers
+pub mod Turns
+pub mod Chained
+pub mod Placed
+pub mod Flags
+pub mod Numbers
