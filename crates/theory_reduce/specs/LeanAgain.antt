@@ -54,7 +54,7 @@ module _ (second : Bool) (labels : List Label) where
       (subst (λ (l : List Key). Implied second labels (b ++ l) k) (staying-all (staying stays keys)) i)))
       (reduced-again r (b ++ (k ∷ [])) (covers-both second labels b before (k ∷ []) c))
 
-  covers-same : (keys : List Key) → Covers second labels keys keys
+  pub covers-same : (keys : List Key) → Covers second labels keys keys
   unfolding Covers
   covers-same keys κ a t tree o e = e
 

@@ -3,6 +3,7 @@ pub mod Parts
 pub mod LeanProfile
 pub mod LeanAgain
 pub mod LeanUnique
+pub mod LeanPromises
 pub mod LeanAnswers
 pub mod Turns
 pub mod Chained
