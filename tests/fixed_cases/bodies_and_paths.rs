@@ -78,7 +78,7 @@ fn refused_paths(cases: &mut Cases) {
 }
 
 /// "P is included in Q if every valid word of P, over all labels with 201 and 202, is a word of Q."
-const INCLUSIONS: [(&str, &str, bool); 37] = [
+const INCLUSIONS: [(&str, &str, bool); 45] = [
     ("e", "e", true),
     ("e", "_*", true),
     ("_*", "e", false),
@@ -118,6 +118,15 @@ const INCLUSIONS: [(&str, &str, bool); 37] = [
     ("run._*.run", "run._*", true),
     ("_*.run._*.port._*", "_*.run._*", true),
     ("_*.run._*.port._*", "_*.port._*.run._*", false),
+    // A run of labels has itself as its only word: the any-path in front, in the middle and last takes none, one or several.
+    ("port.frame.frame", "_*.frame", true),
+    ("frame.port", "_*.frame", false),
+    ("port.run.port.frame", "port._*.frame", true),
+    ("port.run", "port._*.frame", false),
+    ("port", "port._*", true),
+    ("port.frame.@seq", "port._*", true),
+    ("port", "e", false),
+    ("port.frame", "port", false),
 ];
 
 fn inclusions(cases: &mut Cases) {

@@ -10,7 +10,7 @@ use Rattle.meaning.specs.Lists.{keep, numbers}
 use Rattle.meaning.specs.Paths.{Label}
 use Rattle.meaning.specs.Keys.{Key, Implied}
 use Rattle.meaning.specs.Records.{keyBytes}
-use Rattle.meaning.specs.Refusals.{Refusal, Profile, firstRefusal, profileRefusal, answerRefusal}
+use Rattle.meaning.specs.Refusals.{Refusal, firstRefusal, profileRefusal, answerRefusal}
 use Rattle.meaning.specs.Operations.{Answer, Unless, choose, refusedBy, filled, plain, accepted, reduced, dropProved, secondIn, labelsIn, keysIn, profileWritten, ChecksProof}
 
 -- Of each key whether it stays; those that stay, in their order

@@ -1,7 +1,7 @@
 -- The refusal table: document 01, "Refusal numbers". Each record is judged by an ordered list of numbers and tests, and the first test
 -- that holds gives the number: "in one record 7, then 1, 2, 3, 4, 5, 6, 8, 9"; 15 stands "after 6 within the record and before 8".
 use Prim.Native.Nat.{ℕ, zero, suc, _-_}
-use mathlib.Core.Bool.{Bool, true, false, cond, _&&_, _||_, not}
+use mathlib.Core.Bool.{Bool, false, cond, _&&_, _||_, not}
 use mathlib.Core.List.{List, [], _∷_, _++_}
 use lib.Dec.{leb, ltb, eqb}
 use lib.ListN.{length, getD, drop}

@@ -1,5 +1,5 @@
 -- Trees as node tables, reach and value equality: document 01, "Trees, paths and keys".
-use Prim.Native.Nat.{ℕ, zero, suc, _<_, _-_}
+use Prim.Native.Nat.{ℕ, _<_, _-_}
 use mathlib.Core.Path.{_≡_}
 use mathlib.Core.Logic.{_≢_}
 use mathlib.Core.Bool.{Bool, _&&_, not}

@@ -1,6 +1,6 @@
 -- The profile's refusal, then the question's, are the answer of every operation that is lent them; behind them each is given what they hold.
 use Prim.Native.Nat.{ℕ, _≤_, _<_}
-use mathlib.Core.Path.{_≡_, refl, sym, _∙_, ap, subst}
+use mathlib.Core.Path.{_≡_, refl, sym, _∙_, subst}
 use mathlib.Core.Bool.{Bool}
 use mathlib.Core.List.{List, [], _∷_}
 use native.Mathlib.Omega.{arith}
@@ -95,11 +95,6 @@ module _ {profile classes : List ℕ} {o : Outcome} {second : Bool} {before keys
       let s = taken .stops k in
       unless-refused _ buffer Q (meant r) (first-named (meant r) (profileRefusal profile) rs (profile-settled profile) (sym (s .is)) (s .named)) (s .named)
 
-  -- or passed over
-  pub profile-passes : (rs : List Table.Refusal) (buffer : List ℕ) (Q : Answer → Type 0) (answer : Answer) → o ≡ O.Fine → Unless rs buffer Q answer
-      → Unless (profileRefusal profile ∷ rs) buffer Q answer
-  profile-passes rs buffer Q answer k u = unless-passes _ rs buffer Q answer (taken .given k .acceptedProfile) u
-
 -- profile or question is refused:
 module _ {profile question classes : List ℕ} {o : Outcome} {second : Bool} {before keys : ℕ} (taken : BothTaken profile question o classes second before keys) where
   pub both-stops : {r : Refusal} (rs : List Table.Refusal) (buffer : List ℕ) (Q : Answer → Type 0) → o ≡ O.Refused r
@@ -124,21 +119,21 @@ pub record Tables (classes : List ℕ) : Type 0 where
   pub small : length classes ≤ 256
 
 -- An accepted profile with this class table
-pub record Ready (profile classes : List ℕ) : Type 0 where
+pub record AcceptedWith (profile classes : List ℕ) : Type 0 where
   pub accepted : sound ≡ profileRefusal profile
   pub tabled : Tabled (labelsIn profile) classes
 
 -- and of this edition
-pub record ReadyIn (profile classes : List ℕ) (second : Bool) : Type 0 where
-  pub ready : Ready profile classes
+pub record AcceptedIn (profile classes : List ℕ) (second : Bool) : Type 0 where
+  pub ready : AcceptedWith profile classes
   pub edition : second ≡ secondIn profile
 
 module _ {profile classes : List ℕ} {second : Bool} {before keys : ℕ} (g : GivenProfile profile second before keys classes) where
-  pub ready-of : Ready profile classes
+  pub ready-of : AcceptedWith profile classes
   unfolding Rattle.theory_answers.specs.Refusing.Settled
   ready-of = record { accepted = sym (profile-settled profile (g .acceptedProfile)); tabled = g .tabled }
 
-  pub ready-in : ReadyIn profile classes second
+  pub ready-in : AcceptedIn profile classes second
   ready-in = record { ready = ready-of; edition = g .edition }
 
 -- the class table of a profile that passes
@@ -149,10 +144,10 @@ tables-of {profile} taken k =
 
 -- and the profile itself with it
 module _ {profile classes : List ℕ} {o : Outcome} {second : Bool} {before keys : ℕ} (taken : ProfileTaken profile o classes second before keys) (k : o ≡ O.Fine) where
-  pub taken-ready : Ready profile classes
+  pub taken-ready : AcceptedWith profile classes
   taken-ready = ready-of (taken .given k)
 
-  pub taken-in : ReadyIn profile classes second
+  pub taken-in : AcceptedIn profile classes second
   taken-in = ready-in (taken .given k)
 
   pub taken-given : GivenProfile profile second before keys classes

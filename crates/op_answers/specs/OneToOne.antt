@@ -1,7 +1,7 @@
 -- An answer of `meaning` stands for one case of its enum: with the uniqueness of the answers, an operation's result and the buffer at its end are fixed.
 use Prim.Native.Nat.{ℕ, _*_, _-_, _≤_}
-use mathlib.Core.Path.{_≡_, refl, sym, _∙_, ap, ap₂, subst}
-use mathlib.Core.List.{List, [], _∷_, _++_}
+use mathlib.Core.Path.{_≡_, refl, sym, _∙_, ap, ap₂}
+use mathlib.Core.List.{List, [], _++_}
 use native.Mathlib.Omega.{arith}
 use lib.ListN.{length, take, drop, replicate, getD, take-append-drop}
 use lib.Seq.{length-take-le}

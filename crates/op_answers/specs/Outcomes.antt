@@ -1,6 +1,6 @@
 -- What an outcome says of the refusal that it stands for.
-use Prim.Native.Nat.{ℕ, _<_}
-use mathlib.Core.Path.{_≡_, refl, sym, _∙_, ap}
+use Prim.Native.Nat.{ℕ}
+use mathlib.Core.Path.{_≡_, refl, ap}
 use Rattle.meaning.specs.Refusals.{sound}
 use Rattle.meaning.specs.Refusals as Table
 use Rattle.read_judged.specs.Answers.{refusalOf}

@@ -19,7 +19,7 @@ use Rattle.theory_records.specs.Profiles.{accepted-labels, accepted-keys}
 use Rattle.theory_paths.specs.Good.{context-length, target-length}
 use Rattle.theory_answers.specs.Refusing.{Settled, profile-settled, question-settled}
 use Rattle.theory_derive.specs.Accept.{turns}
-use Rattle.theory_derive.specs.Spots.{Ends, atT}
+use Rattle.theory_pattern.specs.Spots.{Ends, atT}
 use Rattle.theory_derive.specs.Written.{proofLines}
 use Rattle.theory_decide.specs.Implied.{proofBytesOf}
 use Rattle.theory_decide.specs.Returns.{decide-implied, decide-not}
@@ -27,13 +27,13 @@ use Rattle.step_search.specs.Accepted.{searchable, found-chain, found-u}
 use Rattle.read_record.specs.Classes.{classBy}
 use Rattle.op_answers.specs.Cases.{usedOf}
 use Rattle.read_inputs.specs.Accepted.{Given}
-use Rattle.write_pattern.specs.Sketch.{Asked}
-use Rattle.step_search.specs.declared.search.Found.{Found}
+use Rattle.write_pattern.specs.Sketch.{Sketchable}
+use Rattle.step_search.specs.declared.search.FinalU.{FinalU}
 use Rattle.step_search.specs.Finding.{Searchable, Finds, stepsBelow}
 use Rattle.write_step.specs.Lines.{WroteLines}
-use Rattle.write_tree.specs.Written.{TreeWritten}
+use Rattle.write_tree.specs.Written.{TreeAtFront}
 use Rattle.write_tree.specs.Labels.{class-everywhere, asked-good, tree-of-labels}
-use Rattle.write_proof.specs.Ready.{ProofReady}
+use Rattle.write_proof.specs.Asks.{ProofReady}
 use Rattle.write_proof.specs.Cited.{proofBy}
 use Rattle.write_proof.specs.Chained.{Remembers, proof-ready, proof-bytes-are}
 use Rattle.op_decider.specs.Remembered.{remembered}
@@ -71,7 +71,7 @@ module _ {profile : List ℕ} {second : Bool} {labels keys : ℕ} {question clas
       (subst (λ (n : ℕ). Searchable (recordsFrom (firstEntry profile + length (labelsIn profile)) profile) n (recordBody question)) (sym (given .keyCount))
       (searchable profile question (given .acceptedProfile) (given .acceptedQuestion))))
 
-  module _ {found : Found} (finds : Finds (recordsFrom labels profile) keys body found) {t : ℕ} (isT : t ≡ tOf (keyIn body)) where
+  module _ {found : FinalU} (finds : Finds (recordsFrom labels profile) keys body found) {t : ℕ} (isT : t ≡ tOf (keyIn body)) where
     finds-here : Finds (recordsFrom (firstEntry profile + length (labelsIn profile)) profile) (length (keysIn profile)) (recordBody question) found
     finds-here =
         subst (λ (n : ℕ). Finds (recordsFrom (firstEntry profile + length (labelsIn profile)) profile) n (recordBody question) found) (given .keyCount)
@@ -124,23 +124,23 @@ module _ {profile : List ℕ} {second : Bool} {labels keys : ℕ} {question clas
           ⊎-elim (λ (e : found .u ≡ tOf (questionIn question)). absurd (omega arith)) (λ i. i not-ends)
           (found-u profile question (given .acceptedProfile) (given .acceptedQuestion) finds-here)
 
-      pub may-draw : Asked body (found .u)
+      pub may-draw : Sketchable body (found .u)
       unfolding questionIn
       may-draw =
           let q = question-accepts (labelsIn profile) question (given .acceptedQuestion) in
           let from = is-u .fromQ in
-          subst (λ (b : List ℕ). Asked b (found .u)) (sym isBody)
+          subst (λ (b : List ℕ). Sketchable b (found .u)) (sym isBody)
           (asked-good (labelsIn profile) (recordBody question) (found .u) (ends-key question (q .isWhole) (q .kind)) (q .good) from
           (let same = t-is in omega arith))
 
       pub decides-tree : {before after : List ℕ} {used : ℕ} → 65536 ≤ length before
-          → TreeWritten (classBy classes) (keyIn body) (found .u) before after used
+          → TreeAtFront (classBy classes) (keyIn body) (found .u) before after used
           → Decides profile question before (usedOf notImplied used after)
       unfolding filled questionIn
       decides-tree {before} {after} {used} room wrote =
           let w =
           tree-of-labels (given .tabled) (accepted-labels profile (given .acceptedProfile)) long
-          (subst (λ (b : List ℕ). TreeWritten (classBy classes) (keyIn b) (found .u) before after used) isBody wrote) in
+          (subst (λ (b : List ℕ). TreeAtFront (classBy classes) (keyIn b) (found .u) before after used) isBody wrote) in
           subst (Decides profile question before)
           (ap₂ (λ (n : ℕ) (b : List ℕ). usedOf notImplied n b) (sym (w .used))
           (ap (λ (n : ℕ). writtenTree (classOf (labelsIn profile)) (questionIn question) (found .u) ++ drop n before) (sym (w .used)) ∙ sym (w .is)))

@@ -16,8 +16,8 @@ use Rattle.theory_records.specs.Encodings.{ends-key}
 use Rattle.theory_records.specs.Places.{key-place}
 use Rattle.theory_records.specs.Profiles.{accepted-keys, profile-accepts, profile-long}
 use Rattle.theory_records.specs.Questions.{question-accepts}
-use Rattle.theory_derive.specs.Spots.{Chain}
-use Rattle.step_search.specs.declared.search.Found.{Found}
+use Rattle.theory_pattern.specs.Spots.{Chain}
+use Rattle.step_search.specs.declared.search.FinalU.{FinalU}
 use Rattle.step_search.specs.Finding.{stepsBelow}
 use Rattle.write_proof.specs.Cited.{citedKey}
 use Rattle.write_proof.specs.Chained.{Remembers}
@@ -62,7 +62,7 @@ module _ (profile question : List ℕ) (soundProfile : profileRefusal profile .n
       let w = walked-few profile in
       omega arith
 
-  pub remembered : (found : Found) → Chain (keysIn profile) (questionIn question) (found .u) (stepsBelow (found .steps) (found .count))
+  pub remembered : (found : FinalU) → Chain (keysIn profile) (questionIn question) (found .u) (stepsBelow (found .steps) (found .count))
       → found .count ≤ 8
       → Remembers (labelsIn profile) profile (firstEntry profile + length (labelsIn profile)) (keysIn profile) (recordBody question) (found .u) (found .steps) (found .count)
   unfolding citedKey questionIn

@@ -11,8 +11,8 @@ use Rattle.meaning.specs.Paths.{Class, isAttribute, singles}
 use Rattle.meaning.specs.Keys.{Key}
 use Rattle.meaning.specs.Records.{keyIn}
 use Rattle.meaning.specs.Pattern.{qOf, tOf}
-use Rattle.theory_paths.specs.Bools.{and-left, and-right, both, eqb-of, of-true, of-false}
-use Rattle.theory_derive.specs.Spots.{chainOf, Ends, atT, aboveSingle}
+use Rattle.theory_lists.specs.Bools.{and-left, and-right, both, eqb-of, of-true, of-false}
+use Rattle.theory_pattern.specs.Spots.{chainOf, Ends, atT, aboveSingle}
 
 getD-behind : (a b : List ℕ) (i : ℕ) → getD (a ++ b) (length a + i) 0 ≡ getD b i 0
 getD-behind [] b i = ap (λ (n : ℕ). getD b n 0) (let e : 0 + i ≡ i = omega arith in e)

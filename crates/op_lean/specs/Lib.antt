@@ -1,3 +1,3 @@
 -- One law for each `return` of the two operations, over what the code has found there.
 pub mod Leaned
-pub mod Found
+pub mod Returns

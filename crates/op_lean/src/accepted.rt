@@ -20,7 +20,7 @@ ghost use Rattle.meaning.specs.Operations.{reduced, dropProved};
 ghost use Rattle.meaning.specs.Reduction.{Reduces, ProvesDropped};
 ghost use Rattle.op_answers.specs.Cases.{fillingAnswer};
 ghost use Rattle.op_lean.specs.Leaned.{Cut, PutLean, Accepted};
-ghost use Rattle.op_lean.specs.Found.{proofOf};
+ghost use Rattle.op_lean.specs.Returns.{proofOf};
 
 // "profile 16,384 bytes"; a reduced profile has no more than the profile.
 const PROFILE_BYTES: usize = 16384;

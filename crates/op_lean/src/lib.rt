@@ -19,7 +19,7 @@ ghost use lib.ListN.{length, take, replicate};
 ghost use Rattle.meaning.specs.Operations.{reduced, dropProved};
 ghost use Rattle.meaning.specs.Reduction.{Reduces, ProvesDropped};
 ghost use Rattle.op_answers.specs.Cases.{fillingAnswer};
-ghost use Rattle.op_lean.specs.Found.{noneDropped};
+ghost use Rattle.op_lean.specs.Returns.{noneDropped};
 
 // What reducing comes to: the bytes used or the refusal, and the numbers of the dropped keys.
 pub struct Lean {

@@ -14,11 +14,11 @@ use Rattle.meaning.specs.Records.{noKey, recordBody, readKey, keyIn, isSome}
 use Rattle.meaning.specs.Operations.{recordsFrom}
 use Rattle.meaning.specs.Pattern.{tOf}
 use Rattle.meaning.specs.Reduction.{staying}
-use Rattle.theory_paths.specs.Bools.{Each-nth}
+use Rattle.theory_lists.specs.Bools.{Each-nth}
 use Rattle.theory_paths.specs.Good.{GoodLabels, GoodKey, context-length, target-length, key-path-length, paths-some, paths-within}
 use Rattle.theory_records.specs.KeyPlaces.{keysFrom, key-shape, KeyRecords, keys-length, key-at}
-use Rattle.theory_derive.specs.Logic.{getD-mem}
-use Rattle.theory_derive.specs.Spots.{Ends, atT}
+use Rattle.theory_lists.specs.Logic.{getD-mem}
+use Rattle.theory_pattern.specs.Spots.{Ends, atT}
 use Rattle.theory_derive.specs.Accept.{turns}
 use Rattle.theory_derive.specs.Ranges.{none-left}
 use Rattle.theory_reduce.specs.Chained.{chain-implied, chain-not-implied}
@@ -26,7 +26,7 @@ use Rattle.theory_reduce.specs.LeanProfile.{staying-each, staying-few}
 use Rattle.theory_reduce.specs.Placed.{keysWritten, keys-written, records-written, keys-size, keys-at}
 use Rattle.read_record.specs.Classes.{Tabled, classBy}
 use Rattle.write_bytes.specs.Wrote.{wrote-front}
-use Rattle.step_search.specs.declared.search.Found.{Found}
+use Rattle.step_search.specs.declared.search.FinalU.{FinalU}
 use Rattle.step_search.specs.Ranges.{NoneLeft}
 use Rattle.step_search.specs.Finding.{Searchable, Finds}
 use Rattle.op_decider.specs.Upward.{stepsUp, up-ends, up-not}
@@ -89,7 +89,7 @@ module _ {part : List ℕ} {keys : ℕ} {asked classes : List ℕ} (a : Asking p
   unfolding tOf
   asking-few = omega (arith, asking-search .asked .context, asking-search .asked .target)
 
-  module _ (second : Bool) {found : Found} (finds : Finds (recordsFrom 0 part) keys asked found) {t : ℕ} (isT : t ≡ tOf (keyIn asked)) where
+  module _ (second : Bool) {found : FinalU} (finds : Finds (recordsFrom 0 part) keys asked found) {t : ℕ} (isT : t ≡ tOf (keyIn asked)) where
     here : Finds part keys asked found
     here = unfold recordsFrom in finds
 

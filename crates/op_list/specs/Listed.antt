@@ -25,7 +25,7 @@ use Rattle.tree_table.specs.Files.{class-same, file-table, tree-bytes}
 use Rattle.tree_table.specs.FileTable.{fileTable, TreeBytes}
 use Rattle.write_bytes.specs.Wrote.{Wrote, wrote-front}
 use Rattle.write_listing.specs.Lines.{blockOf, block-is}
-use Rattle.op_accept.specs.Taken.{ProfileTaken, ReadyIn, Tables, profile-stops}
+use Rattle.op_accept.specs.Taken.{ProfileTaken, AcceptedIn, Tables, profile-stops}
 
 pub small-lists : (profile tree : List ℕ) (k : ℕ) (buffer : List ℕ) (r : Refusal) → length buffer < 65536
     → meant r ≡ record { number = 14; input = 4; place = 0 } → Lists profile tree k buffer (refusedBy (meant r) buffer)
@@ -40,11 +40,11 @@ list-stops taken tree k buffer h x = unless-room _ buffer _ _ h (profile-stops t
 module _ (tree classes : List ℕ) (second : Bool) (judged : Judged)
     (says : (labels : List Label) → Tabled labels classes → refusalOf 3 judged ≡ treeRefusal second labels tree)
     {o : Outcome} (e : o ≡ outcomeOf 3 judged) where
-  says-in : {profile : List ℕ} → ReadyIn profile classes second → refusalOf 3 judged ≡ treeRefusal (secondIn profile) (labelsIn profile) tree
+  says-in : {profile : List ℕ} → AcceptedIn profile classes second → refusalOf 3 judged ≡ treeRefusal (secondIn profile) (labelsIn profile) tree
   says-in {profile} ready =
       says (labelsIn profile) (ready .ready .tabled) ∙ ap (λ (b : Bool). treeRefusal b (labelsIn profile) tree) (ready .edition)
 
-  pub tree-stops : {r : Refusal} (k : ℕ) (buffer : List ℕ) → 65536 ≤ length buffer → o ≡ O.Refused r → (profile : List ℕ) → ReadyIn profile classes second
+  pub tree-stops : {r : Refusal} (k : ℕ) (buffer : List ℕ) → 65536 ≤ length buffer → o ≡ O.Refused r → (profile : List ℕ) → AcceptedIn profile classes second
       → Lists profile tree k buffer (refusedBy (meant r) buffer)
   tree-stops {r} k buffer h x profile ready =
       let n = outcome-refused 3 judged e x .named in
@@ -57,7 +57,7 @@ module _ (tree classes : List ℕ) (second : Bool) (judged : Judged)
       (tables .tabled)
 
   pub tree-lists : Tables classes → (k : ℕ) (buffer after : List ℕ) (used : ℕ) → 65536 ≤ length buffer → o ≡ O.Fine
-      → Wrote buffer after 0 (blockOf (classBy classes) (fileTable tree) k) used → (profile : List ℕ) → ReadyIn profile classes second
+      → Wrote buffer after 0 (blockOf (classBy classes) (fileTable tree) k) used → (profile : List ℕ) → AcceptedIn profile classes second
       → Lists profile tree k buffer (usedOf listed used after)
   unfolding filled
   tree-lists tables k buffer after used h x wrote profile ready =

@@ -12,7 +12,7 @@ ghost use Prim.Native.Nat.{ℕ, _≤_};
 ghost use mathlib.Core.List.{List};
 ghost use lib.ListN.{length};
 ghost use Rattle.meaning.specs.Operations.{Lists};
-ghost use Rattle.op_accept.specs.Taken.{ReadyIn, Tables};
+ghost use Rattle.op_accept.specs.Taken.{AcceptedIn, Tables};
 ghost use Rattle.op_answers.specs.Cases.{listingAnswer};
 
 // The answer for a tree under an accepted profile, of which only the class table and the edition are needed.
@@ -24,7 +24,7 @@ fn list_tree(
     second: bool,
 ) -> Listing
     requires { ⌜ Tables (now classes) × (65536 ≤ length (now answer)) ⌝ }
-    ensures { λ r. ⌜ ((profile : List ℕ) → ReadyIn profile (now (classes .entry)) second → Lists profile (now (tree .entry)) block (now (answer .entry)) (listingAnswer r (now (answer .exit)))) ⌝ }
+    ensures { λ r. ⌜ ((profile : List ℕ) → AcceptedIn profile (now (classes .entry)) second → Lists profile (now (tree .entry)) block (now (answer .entry)) (listingAnswer r (now (answer .exit)))) ⌝ }
 {
     let judged = read_tree(tree, classes, second);
     let outcome = of_input(judged, TREE_OR_PROOF);

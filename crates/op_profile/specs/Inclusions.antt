@@ -11,7 +11,7 @@ use Rattle.meaning.specs.Limits.{barePath}
 use Rattle.meaning.specs.Paths.{Label, classOf, member, valid, Included}
 use Rattle.meaning.specs.Refusals.{Refusal, sound, firstRefusal, firstOf, goodPath, profileRefusal, pathRefusal}
 use Rattle.meaning.specs.Operations.{Includes, refusedBy, plain, included, notIncluded, labelsIn}
-use Rattle.theory_paths.specs.Bools.{of-true, of-false}
+use Rattle.theory_lists.specs.Bools.{of-true, of-false}
 use Rattle.theory_paths.specs.Good
 use Rattle.theory_paths.specs.Good.{included-good}
 use Rattle.theory_records.specs.Profiles.{accepted-labels}

@@ -4,5 +4,5 @@ pub mod Paths
 pub mod Profiles
 pub mod Inclusions
 -- One law for each `return` of an operation, over what the code has found there.
-pub mod Found
+pub mod Returns
 pub mod One

@@ -6,13 +6,13 @@ use mathlib.Core.List.{List, [], _∷_}
 use Rattle.meaning.specs.Limits.{barePath}
 use Rattle.meaning.specs.Paths.{Label, valid}
 use Rattle.meaning.specs.Refusals.{firstOf, pathRefusal}
-use Rattle.read_record.specs.Classes.{Tabled, Bytes, goodPathBy, classBy}
+use Rattle.read_record.specs.Classes.{Tabled, ByteAt, goodPathBy, classBy}
 use Rattle.read_record.specs.Tables.{path-tabled, valid-tabled}
 
 unfoldable pub pathNumberBy : List ℕ → List ℕ → ℕ
 pathNumberBy classes p = firstOf ((4, not (goodPathBy classes barePath p)) ∷ (6, not (valid (classBy classes) p)) ∷ [])
 
-pub path-number : {labels : List Label} {classes : List ℕ} → Tabled labels classes → (input : ℕ) (p : List ℕ) → Bytes p
+pub path-number : {labels : List Label} {classes : List ℕ} → Tabled labels classes → (input : ℕ) (p : List ℕ) → ByteAt p
     → pathRefusal labels input p ≡ record { number = pathNumberBy classes p; input = input; place = 0 }
 unfolding pathNumberBy pathRefusal
 path-number {labels} {classes} t input p b =

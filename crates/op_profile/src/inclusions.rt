@@ -14,7 +14,7 @@ ghost use mathlib.Core.Path.{_≡_};
 ghost use mathlib.Core.List.{List};
 ghost use Prim.Native.Nat.{ℕ};
 ghost use Rattle.meaning.specs.Operations.{Includes};
-ghost use Rattle.op_accept.specs.Taken.{Ready, Tables};
+ghost use Rattle.op_accept.specs.Taken.{AcceptedWith, Tables};
 ghost use Rattle.op_answers.specs.Cases.{inclusionAnswer};
 ghost use Rattle.op_profile.specs.Paths.{pathNumberBy};
 
@@ -36,7 +36,7 @@ fn path_number(path: &[u8], classes: &[u8; 256]) -> usize
 // The answer for two paths under an accepted profile, of which only the class table is needed.
 fn include_paths(path: &[u8], other: &[u8], classes: &[u8; 256]) -> Inclusion
     requires { ⌜ Tables (now classes) ⌝ }
-    ensures { λ r. ⌜ ((profile : List ℕ) → Ready profile (now (classes .entry)) → Includes profile (now (path .entry)) (now (other .entry)) (inclusionAnswer r)) ⌝ }
+    ensures { λ r. ⌜ ((profile : List ℕ) → AcceptedWith profile (now (classes .entry)) → Includes profile (now (path .entry)) (now (other .entry)) (inclusionAnswer r)) ⌝ }
 {
     let first = path_number(path, classes);
     if first != 0 {

@@ -17,7 +17,7 @@ use Rattle.op_answers.specs.declared.Outcome.the-variants as O
 use Rattle.op_answers.specs.Cases.{meant, outcomeOf}
 use Rattle.op_answers.specs.Outcomes.{outcome-refused, outcome-fine}
 use Rattle.theory_answers.specs.Refusing.{unless-refused, sound-more, sound-end, first-passes, first-named, sound-number, question-settled, tree-settled}
-use Rattle.op_accept.specs.Taken.{ReadyIn}
+use Rattle.op_accept.specs.Taken.{AcceptedIn}
 
 pub record Stops (second : Bool) (labels : List Label) (question tree : List ℕ) (r : Refusal) : Type 0 where
   pub is : firstRefusal (questionRefusal labels question ∷ treeRefusal second labels tree ∷ []) ≡ meant r
@@ -66,7 +66,7 @@ module _ (second : Bool) (question classes : List ℕ) (asked : Judged)
             named = omega arith;
           }
 
-module _ {profile classes : List ℕ} {second : Bool} (question tree : List ℕ) (ready : ReadyIn profile classes second) where
+module _ {profile classes : List ℕ} {second : Bool} (question tree : List ℕ) (ready : AcceptedIn profile classes second) where
   pub both-refuse : {o : Outcome} → BothSay second question tree classes o → {r : Refusal} (Q : Answer → Type 0) → o ≡ O.Refused r
       → Unless (treeRefusals profile question tree) [] Q (refusedBy (meant r) [])
   unfolding treeRefusals BothSay

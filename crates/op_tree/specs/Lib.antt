@@ -1,4 +1,4 @@
 pub mod ProfileKeys
 pub mod Inputs
-pub mod Asked
+pub mod BothAccepted
 pub mod One

@@ -26,15 +26,15 @@ ghost use Prim.Native.Nat.{ℕ};
 ghost use mathlib.Core.Path.{_≡_};
 ghost use mathlib.Core.List.{List};
 ghost use Rattle.meaning.specs.Operations.{TestsTree, ChecksCounterexample};
-ghost use Rattle.op_accept.specs.Taken.{ReadyIn, Tables};
+ghost use Rattle.op_accept.specs.Taken.{AcceptedIn, Tables};
 ghost use Rattle.op_answers.specs.Cases.{meant, keepingAnswer, KeepingPadded, counteringAnswer, CounteringPadded};
 ghost use Rattle.read_inputs.specs.Accepted.{GivenProfile};
-ghost use Rattle.op_tree.specs.Asked.{Asked};
+ghost use Rattle.op_tree.specs.BothAccepted.{BothAccepted};
 
 // The answer for an accepted question and an accepted tree. All tables are made once, here.
 fn keep_accepted(question: &[u8], tree: &[u8], classes: &[u8; 256], second: bool) -> Keeping
-    requires { ⌜ Asked second (now question) (now tree) (now classes) ⌝ }
-    ensures { λ r. ⌜ ((profile : List ℕ) → ReadyIn profile (now (classes .entry)) second → TestsTree profile (now (question .entry)) (now (tree .entry)) (keepingAnswer r)) × KeepingPadded r ⌝ }
+    requires { ⌜ BothAccepted second (now question) (now tree) (now classes) ⌝ }
+    ensures { λ r. ⌜ ((profile : List ℕ) → AcceptedIn profile (now (classes .entry)) second → TestsTree profile (now (question .entry)) (now (tree .entry)) (keepingAnswer r)) × KeepingPadded r ⌝ }
 {
     let mut rows = [0u16; ROWS];
     let mut top = [0u16; TREE_NODES];
@@ -62,7 +62,7 @@ fn keep_accepted(question: &[u8], tree: &[u8], classes: &[u8; 256], second: bool
 // The answer under an accepted profile, of which only the class table and the edition are needed.
 fn keep_under(question: &[u8], tree: &[u8], classes: &[u8; 256], second: bool) -> Keeping
     requires { ⌜ Tables (now classes) ⌝ }
-    ensures { λ r. ⌜ ((profile : List ℕ) → ReadyIn profile (now (classes .entry)) second → TestsTree profile (now (question .entry)) (now (tree .entry)) (keepingAnswer r)) × KeepingPadded r ⌝ }
+    ensures { λ r. ⌜ ((profile : List ℕ) → AcceptedIn profile (now (classes .entry)) second → TestsTree profile (now (question .entry)) (now (tree .entry)) (keepingAnswer r)) × KeepingPadded r ⌝ }
 {
     let outcome = read_both(question, tree, classes, second);
     match outcome {
@@ -107,7 +107,7 @@ fn check_accepted(
     classes: &[u8; 256],
     second: bool,
 ) -> Countering
-    requires { ⌜ Asked second (now question) (now tree) (now classes) × GivenProfile (now profile) second before keys (now classes) ⌝ }
+    requires { ⌜ BothAccepted second (now question) (now tree) (now classes) × GivenProfile (now profile) second before keys (now classes) ⌝ }
     ensures { λ r. ⌜ ChecksCounterexample (now (profile .entry)) (now (question .entry)) (now (tree .entry)) (counteringAnswer r) × CounteringPadded r ⌝ }
 {
     let mut rows = [0u16; ROWS];

@@ -3,5 +3,5 @@ pub mod Pointing
 pub mod Marked
 pub mod Numbering
 pub mod Putting
-pub mod Found
+pub mod Returns
 pub mod One

@@ -1,5 +1,5 @@
 -- A line's new number: how many marks stand before it.
-use Prim.Native.Nat.{ℕ, zero, suc, _+_, _≤_, _<_}
+use Prim.Native.Nat.{ℕ, suc, _+_, _≤_, _<_}
 use mathlib.Core.Path.{_≡_, refl, sym, ap, subst, _∙_}
 use mathlib.Core.Logic.{_⊎_, inl, inr}
 use mathlib.Core.Bool.{Bool, true, false, cond}
@@ -10,24 +10,7 @@ use native.Mathlib.Numerals.{add-one}
 use lib.ListN.{length, getD, set, length-set, length-append}
 use lib.Seq.{getD-set-same, getD-set-other}
 use Rattle.meaning.specs.Lists.{keep, numbers}
-
--- one number more
-pub keep-more : (f : ℕ → Bool) (count lo : ℕ) → keep f (numbers (suc count) lo) ≡ keep f (numbers count lo) ++ cond (f (lo + count)) ((lo + count) ∷ []) []
-unfolding keep numbers
-keep-more f zero lo = let z : lo ≡ lo + 0 = omega arith in ap (λ (n : ℕ). cond (f n) (n ∷ []) []) z
-keep-more f (suc count) lo =
-    ap (λ (l : List ℕ). cond (f lo) (lo ∷ l) l)
-    (subst (λ (n : ℕ). keep f (numbers (suc count) (suc lo)) ≡ keep f (numbers count (suc lo)) ++ cond (f n) (n ∷ []) []) next (keep-more f count (suc lo)))
-    ∙ go (f lo)
-  where
-    next : suc lo + count ≡ lo + suc count
-    next = omega arith
-
-    go : (b : Bool)
-        → cond b (lo ∷ (keep f (numbers count (suc lo)) ++ cond (f (lo + suc count)) ((lo + suc count) ∷ []) [])) (keep f (numbers count (suc lo)) ++ cond (f (lo + suc count)) ((lo + suc count) ∷ []) [])
-        ≡ cond b (lo ∷ keep f (numbers count (suc lo))) (keep f (numbers count (suc lo))) ++ cond (f (lo + suc count)) ((lo + suc count) ∷ []) []
-    go true = refl
-    go false = refl
+use Rattle.theory_lists.specs.Lists.{keep-more}
 
 -- how many marks stand before line i
 unfoldable pub marksBefore : List Bool → ℕ → ℕ

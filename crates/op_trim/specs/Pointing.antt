@@ -17,7 +17,7 @@ use Rattle.meaning.specs.Rules.{lineKeys}
 use Rattle.meaning.specs.Records.{noKey, keyBody, keyIn, recordBody}
 use Rattle.meaning.specs.Operations.{recordsFrom}
 use Rattle.meaning.specs.Trimming.{earliest, pointed}
-use Rattle.theory_paths.specs.Bools.{true-of, same-refl}
+use Rattle.theory_lists.specs.Bools.{true-of, same-refl}
 use Rattle.theory_records.specs.Heads.{body-length}
 use Rattle.theory_records.specs.KeyBodies.{key-in-written}
 use Rattle.rule_lines.specs.Premises.{linesFrom, line-at}

@@ -24,7 +24,7 @@ use Rattle.write_bytes.specs.Wrote.{Wrote, wrote-none, wrote-more, wrote-is}
 use Rattle.write_line.specs.LineParts.{lineHead, Sized}
 use Rattle.op_trim.specs.Standing.{LineThere}
 use Rattle.op_trim.specs.Marked.{premiseCount, Uses, none, one, two, Known, body-uses}
-use Rattle.op_trim.specs.Numbering.{keep-more}
+use Rattle.theory_lists.specs.Lists.{keep-more}
 
 -- the new number of a premise
 unfoldable pub moves : List ℕ → List ℕ → ℕ → ℕ

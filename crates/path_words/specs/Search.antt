@@ -10,14 +10,14 @@ use lib.ListN.{length, take, drop, getD}
 use borrow.Rule.Slice.PartAt.{part-to-end}
 use borrow.Author.Tests.{eq-eqb, ne-eqb}
 use Rattle.meaning.specs.Lists.{isEmpty}
-use Rattle.theory_paths.specs.Bools.{true-of, of-true}
+use Rattle.theory_lists.specs.Bools.{true-of, of-true}
 use Rattle.theory_paths.specs.Words.{of-end}
 use Rattle.meaning.specs.Paths.{member, front, anyEnd}
-use Rattle.path_words.specs.declared.Found.{Found}
-use Rattle.path_words.specs.declared.Found.the-variants.{Word, NoWord, OutOfLabels}
+use Rattle.path_words.specs.declared.Membership.{Membership}
+use Rattle.path_words.specs.declared.Membership.the-variants.{Word, NoWord, OutOfLabels}
 
 -- `OutOfLabels`: no end of the run is a word
-unfoldable pub Told : Found → List ℕ → List ℕ → Type 0
+unfoldable pub Told : Membership → List ℕ → List ℕ → Type 0
 Told Word path run = member path run ≡ true
 Told NoWord path run = member path run ≡ false
 Told OutOfLabels path run = anyEnd (member path) run ≡ false
@@ -86,10 +86,10 @@ abbrev pub handed : List ℕ → List ℕ
 handed l = take (length l - 1) (drop 1 l)
 
 -- the path begins with the any-path: what the search of the rest told
-module _ (P w : List ℕ) (some : length P ≡ 0 → ⊥) (any : getD P 0 0 ≡ 0) (r : Found) (told : Told r (handed P) w) where
+module _ (P w : List ℕ) (some : length P ≡ 0 → ⊥) (any : getD P 0 0 ≡ 0) (r : Membership) (told : Told r (handed P) w) where
   pub any-word : r ≡ Word → Told Word P w
   unfolding Told member front anyEnd
-  any-word e = first-any (λ (l : List ℕ). Told Word l w) P (handed P) some any (part-to-end P 1) (begun w (subst (λ (f : Found). Told f (handed P) w) e told))
+  any-word e = first-any (λ (l : List ℕ). Told Word l w) P (handed P) some any (part-to-end P 1) (begun w (subst (λ (f : Membership). Told f (handed P) w) e told))
     where
       begun : (v : List ℕ) → member (handed P) v ≡ true → anyEnd (member (handed P)) v ≡ true
       begun v t = true-of (anyEnd (member (handed P)) v) (of-end (member (handed P)) [] v (of-true (member (handed P) v) t))
@@ -98,30 +98,30 @@ module _ (P w : List ℕ) (some : length P ≡ 0 → ⊥) (any : getD P 0 0 ≡ 
   unfolding Told member front anyEnd
   any-out e =
       first-any (λ (l : List ℕ). Told OutOfLabels l w) P (handed P) some any (part-to-end P 1)
-      (any-ends (member (handed P)) w (subst (λ (f : Found). Told f (handed P) w) e told))
+      (any-ends (member (handed P)) w (subst (λ (f : Membership). Told f (handed P) w) e told))
 
   pub any-spent : r ≡ NoWord → length w ≡ 0 → Told OutOfLabels P w
   unfolding Told member front anyEnd
   any-spent e n =
-      first-any (λ (l : List ℕ). Told OutOfLabels l w) P (handed P) some any (part-to-end P 1) (ended w n (subst (λ (f : Found). Told f (handed P) w) e told))
+      first-any (λ (l : List ℕ). Told OutOfLabels l w) P (handed P) some any (part-to-end P 1) (ended w n (subst (λ (f : Membership). Told f (handed P) w) e told))
     where
       ended : (v : List ℕ) → length v ≡ 0 → member (handed P) v ≡ false → anyEnd (anyEnd (member (handed P))) v ≡ false
       ended [] n t = t
       ended (x ∷ v) n t = absurd (omega arith)
 
   -- it takes a label
-  pub any-more : r ≡ NoWord → (length w ≡ 0 → ⊥) → (a : Found) → Told a P (handed w) → Told a P w
+  pub any-more : r ≡ NoWord → (length w ≡ 0 → ⊥) → (a : Membership) → Told a P (handed w) → Told a P w
   unfolding Told member front anyEnd
   any-more e n a h =
       first-any (λ (l : List ℕ). Told a l w) P (handed P) some any (part-to-end P 1)
-      (taken w n (part-to-end w 1) (subst (λ (f : Found). Told f (handed P) w) e told) a (first-of P some any (part-to-end P 1) h))
+      (taken w n (part-to-end w 1) (subst (λ (f : Membership). Told f (handed P) w) e told) a (first-of P some any (part-to-end P 1) h))
     where
       first-of : (Q : List ℕ) → (length Q ≡ 0 → ⊥) → getD Q 0 0 ≡ 0 → handed P ≡ drop 1 Q → Told a Q (handed w) → Told a (zero ∷ handed P) (handed w)
       first-of [] f g i k = absurd (f refl)
       first-of (zero ∷ Q) f g i k = subst (λ (l : List ℕ). Told a (zero ∷ l) (handed w)) (sym i) k
       first-of (suc b ∷ Q) f g i k = absurd (omega arith)
 
-      taken : (v : List ℕ) → (length v ≡ 0 → ⊥) → handed w ≡ drop 1 v → member (handed P) v ≡ false → (b : Found) → Told b (zero ∷ handed P) (handed w)
+      taken : (v : List ℕ) → (length v ≡ 0 → ⊥) → handed w ≡ drop 1 v → member (handed P) v ≡ false → (b : Membership) → Told b (zero ∷ handed P) (handed w)
           → Told b (zero ∷ handed P) v
       taken [] f j t b k = absurd (f refl)
       taken (x ∷ v) f j t Word k = ap₂ _||_ t (subst (λ (l : List ℕ). anyEnd (member (handed P)) l ≡ true) j k)
@@ -148,13 +148,13 @@ module _ (P w : List ℕ) (some : length P ≡ 0 → ⊥) (label : getD P 0 0 �
       other a [] f g = absurd (f refl)
       other a (x ∷ v) f g = ap (λ (b : Bool). b && member (drop 1 P) v) (ne-eqb x (suc a) g)
 
-  pub label-more : (length w ≡ 0 → ⊥) → getD w 0 0 ≡ getD P 0 0 → (r : Found)
+  pub label-more : (length w ≡ 0 → ⊥) → getD w 0 0 ≡ getD P 0 0 → (r : Membership)
       → Told r (handed P) (handed w) → Told r P w
   unfolding Told member front anyEnd
   label-more n e r h =
       first-label (λ (l : List ℕ). Told r l w) P (handed P) some label (part-to-end P 1) (λ a d. taken a w n (e ∙ d) (part-to-end w 1) r h)
     where
-      taken : (a : ℕ) (v : List ℕ) → (length v ≡ 0 → ⊥) → getD v 0 0 ≡ suc a → handed w ≡ drop 1 v → (b : Found) → Told b (handed P) (handed w)
+      taken : (a : ℕ) (v : List ℕ) → (length v ≡ 0 → ⊥) → getD v 0 0 ≡ suc a → handed w ≡ drop 1 v → (b : Membership) → Told b (handed P) (handed w)
           → Told b (suc a ∷ handed P) v
       taken a [] f g j b k = absurd (f refl)
       taken a (x ∷ v) f g j Word k = ap₂ _&&_ (eq-eqb x (suc a) g) (subst (λ (l : List ℕ). member (handed P) l ≡ true) j k)
@@ -165,14 +165,14 @@ module _ (P w : List ℕ) (some : length P ≡ 0 → ⊥) (label : getD P 0 0 �
           (and-false (eqb x (suc a)) (member (handed P) v) (end-self (member (handed P)) v later)) (label-ends a (member (handed P)) v later)
 
 -- what the answer says of membership alone
-pub told-word : (r : Found) (P w : List ℕ) → Told r P w → r ≡ Word → true ≡ member P w
+pub told-word : (r : Membership) (P w : List ℕ) → Told r P w → r ≡ Word → true ≡ member P w
 unfolding Told
-told-word r P w t e = sym (subst (λ (f : Found). Told f P w) e t)
+told-word r P w t e = sym (subst (λ (f : Membership). Told f P w) e t)
 
-pub told-none : (r : Found) (P w : List ℕ) → Told r P w → r ≡ NoWord → false ≡ member P w
+pub told-none : (r : Membership) (P w : List ℕ) → Told r P w → r ≡ NoWord → false ≡ member P w
 unfolding Told
-told-none r P w t e = sym (subst (λ (f : Found). Told f P w) e t)
+told-none r P w t e = sym (subst (λ (f : Membership). Told f P w) e t)
 
-pub told-out : (r : Found) (P w : List ℕ) → Told r P w → r ≡ OutOfLabels → false ≡ member P w
+pub told-out : (r : Membership) (P w : List ℕ) → Told r P w → r ≡ OutOfLabels → false ≡ member P w
 unfolding Told
-told-out r P w t e = sym (end-self (member P) w (subst (λ (f : Found). Told f P w) e t))
+told-out r P w t e = sym (end-self (member P) w (subst (λ (f : Membership). Told f P w) e t))

@@ -13,30 +13,30 @@ pub const ANY_PATH: u8 = 0;
 
 // What a search for a word says: the run is a word, it is none, or it is none and no end of it is one: then an any-path further out,
 // which can only offer less of the run, need not try again.
-pub enum Found {
+pub enum Membership {
     Word,
     NoWord,
     OutOfLabels,
 }
 
 // "membership of a label run in a path calls itself on the rest, an any-path consuming a label or ending".
-fn search(run: &[u8], path: &[u8]) -> Found
+fn search(run: &[u8], path: &[u8]) -> Membership
     ensures { λ r. ⌜ Told r (now (path .entry)) (now (run .entry)) ⌝ }
 {
     if path.len() == 0 {
         if run.len() == 0 {
-            return Found::Word;
+            return Membership::Word;
         }
-        return Found::NoWord;
+        return Membership::NoWord;
     }
     if path[0] == ANY_PATH {
         let ended = search(run, &path[1..]);
         return match ended {
-            Found::Word => Found::Word,
-            Found::OutOfLabels => Found::OutOfLabels,
-            Found::NoWord => {
+            Membership::Word => Membership::Word,
+            Membership::OutOfLabels => Membership::OutOfLabels,
+            Membership::NoWord => {
                 if run.len() == 0 {
-                    Found::OutOfLabels
+                    Membership::OutOfLabels
                 } else {
                     search(&run[1..], path)
                 }
@@ -44,10 +44,10 @@ fn search(run: &[u8], path: &[u8]) -> Found
         };
     }
     if run.len() == 0 {
-        return Found::OutOfLabels;
+        return Membership::OutOfLabels;
     }
     if run[0] != path[0] {
-        return Found::NoWord;
+        return Membership::NoWord;
     }
     search(&run[1..], &path[1..])
 }
@@ -57,9 +57,9 @@ pub fn member(run: &[u8], path: &[u8]) -> bool
     ensures { λ r. ⌜ r ≡ isMember (now (path .entry)) (now (run .entry)) ⌝ }
 {
     match search(run, path) {
-        Found::Word => true,
-        Found::NoWord => false,
-        Found::OutOfLabels => false,
+        Membership::Word => true,
+        Membership::NoWord => false,
+        Membership::OutOfLabels => false,
     }
 }
 

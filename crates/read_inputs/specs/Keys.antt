@@ -1,19 +1,19 @@
 -- Key records and proof lines judged by the class table, return by return; and the same by the labels.
 use Prim.Native.Nat.{ℕ, _-_, _≤_}
-use mathlib.Core.Path.{_≡_, sym, ap, _∙_}
-use mathlib.Core.Bool.{Bool, true, false, not}
-use mathlib.Core.List.{List}
+use mathlib.Core.Path.{_≡_, refl, sym, ap, _∙_}
+use mathlib.Core.Bool.{Bool, true, false, cond, not}
+use mathlib.Core.List.{List, []}
 use native.Mathlib.Omega.{arith}
-use borrow.Author.Tests.{not-false}
+use lib.Dec.{eqb}
 use lib.ListN.{take, drop}
 use lib.Seq.{drop-drop}
 use Rattle.meaning.specs.Limits.{inProfile, inProof}
 use Rattle.meaning.specs.Records.{word, recordLength, recordKind, recordBody, readKey, isSome, keyIn, readLine}
-use Rattle.meaning.specs.Refusals.{firstOf, whole}
+use Rattle.meaning.specs.Refusals.{firstOf, tooMany, whole}
 use Rattle.read_record.specs.Classes.{keyTestsBy}
-use Rattle.theory_records.specs.Heads.{Whole, whole-says, body-length}
+use Rattle.theory_records.specs.Heads.{Passed, body-length}
 use Rattle.theory_records.specs.Encodings.{ends-key, ends-line}
-use Rattle.theory_records.specs.HeadTests.{headTests, body-part}
+use Rattle.theory_records.specs.HeadTests.{headTests, HeadPassed, head-passed, body-part}
 use Rattle.read_inputs.specs.Labels.{drop-take}
 
 -- the tests of a key record after so many keys, and of a line after so many lines
@@ -34,22 +34,42 @@ line-key-part l {n} e =
     less : (n : ℕ) → n - 4 - 5 ≡ n - 9
     less n = omega arith
 
--- what a whole record of its kind holds
-module _ (l : List ℕ) {b : Bool} (isWhole : b ≡ whole l) (passed : not b ≡ false) {k : ℕ} (kind : k ≡ word l 2) {n : ℕ} (long : n ≡ word l 0) where
-  its : Whole l
-  its = whole-says l (sym isWhole ∙ not-false _ passed)
+-- 7, 1 and 2 asked before the other tests: one of them is the number, or the others decide
+module _ (kind limit count : ℕ) (l : List ℕ) (more : List (ℕ × Bool)) {r : ℕ} (head : r ≡ firstOf (headTests kind limit count l [])) where
+  after : (a b c : Bool) → r ≡ cond a 7 (cond b 1 (cond c 2 0))
+      → ((r ≡ 0 → ⊥) → r ≡ cond a 7 (cond b 1 (cond c 2 (firstOf more)))) × (r ≡ 0 → firstOf more ≡ cond a 7 (cond b 1 (cond c 2 (firstOf more))))
+  after true b c e = (λ n. e, λ z. absurd (omega arith))
+  after false true c e = (λ n. e, λ z. absurd (omega arith))
+  after false false true e = (λ n. e, λ z. absurd (omega arith))
+  after false false false e = (λ n. absurd (n e), λ z. refl)
 
-  pub key-whole : k ≡ 2 → isSome (readKey (take (n - 4) (drop 4 l))) ≡ true
-  unfolding recordKind
-  key-whole h = rw (body-part l long) (ends-key l its (sym kind ∙ h))
+  pub head-stops : (r ≡ 0 → ⊥) → r ≡ firstOf (headTests kind limit count l more)
+  unfolding headTests firstOf
+  head-stops = after (tooMany kind limit count l) (not (whole l)) (not (eqb (recordKind l) kind)) head .0
 
-  pub line-whole : k ≡ 4 → isSome (readKey (take (n - 9) (drop 9 l))) ≡ true
-  unfolding recordKind
-  line-whole h = rw (line-key-part l long) (ends-line l its (sym kind ∙ h) .1)
+  pub head-goes : r ≡ 0 → firstOf more ≡ firstOf (headTests kind limit count l more)
+  unfolding headTests firstOf
+  head-goes = after (tooMany kind limit count l) (not (whole l)) (not (eqb (recordKind l) kind)) head .1
 
-  pub line-room : k ≡ 4 → 9 ≤ n
-  unfolding recordKind recordLength
-  line-room h = omega (arith, ends-line l its (sym kind ∙ h) .0, its .long, body-length l (its .within))
+-- what a record holds that none of them refuses
+module _ (kind limit count : ℕ) (l : List ℕ) {r : ℕ} (head : r ≡ firstOf (headTests kind limit count l [])) (none : r ≡ 0) where
+  its : HeadPassed kind l []
+  its = head-passed kind limit count l [] (sym head ∙ none)
+
+  pub head-room : Passed l
+  unfolding recordLength
+  head-room = let w = its .isWhole in record { head = w .head; long = w .long; within = w .within }
+
+  module _ {n : ℕ} (long : n ≡ word l 0) where
+    pub key-whole : kind ≡ 2 → isSome (readKey (take (n - 4) (drop 4 l))) ≡ true
+    key-whole h = rw (body-part l long) (ends-key l (its .isWhole) (its .isKind ∙ h))
+
+    pub line-whole : kind ≡ 4 → isSome (readKey (take (n - 9) (drop 9 l))) ≡ true
+    line-whole h = rw (line-key-part l long) (ends-line l (its .isWhole) (its .isKind ∙ h) .1)
+
+    pub line-room : kind ≡ 4 → 9 ≤ n
+    unfolding recordLength
+    line-room h = omega (arith, ends-line l (its .isWhole) (its .isKind ∙ h) .0, its .isWhole .long, body-length l (its .isWhole .within))
 
 -- the number that the key gives, as the code has it
 pub key-number : (classes : List ℕ) (l : List ℕ) {n : ℕ} → n ≡ word l 0 → {r : ℕ}

@@ -20,7 +20,7 @@ use Rattle.theory_records.specs.Walks.{walk-step, walk-stop, walk-end}
 use Rattle.read_inputs.specs.Keys.{keyRecordTestsBy}
 use Rattle.read_inputs.specs.Agree.{question-agrees}
 use Rattle.read_inputs.specs.KeyWalks.{key-here}
-use Rattle.theory_paths.specs.Bools.{and-false}
+use Rattle.theory_lists.specs.Bools.{and-false}
 
 pub question-empty : (labels : List Label) (bytes : List ℕ) → length bytes ≡ 0 → record { number = 1; input = 2; place = 0 } ≡ questionRefusal labels bytes
 unfolding questionRefusal firstRefusal questionWalked walk isEmpty

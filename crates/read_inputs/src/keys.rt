@@ -13,7 +13,9 @@ use read_record::fields::word;
 use read_record::limits::KEY_IN_LINE;
 use read_record::limits::LINE_SYMBOLS;
 ghost use mathlib.Core.Path.{_≡_};
+ghost use mathlib.Core.List.{[]};
 ghost use Rattle.meaning.specs.Refusals.{firstOf};
+ghost use Rattle.theory_records.specs.HeadTests.{headTests};
 ghost use Rattle.read_inputs.specs.Keys.{keyRecordTestsBy, lineTestsBy};
 
 // "profile .. 64 keys"; "proof .. 256 lines"
@@ -31,18 +33,29 @@ const LINE_PATH_SYMBOLS: usize = 16;
 
 const LINE_KEY_PATHS: usize = 64;
 
-// The number that the key record at the front gives, after so many keys: 7, 1, 2, then 4, 5, 6.
-pub fn judge_key(rest: &[u8], keys: usize, classes: &[u8; 256]) -> usize
-    ensures { λ r. ⌜ r ≡ firstOf (keyRecordTestsBy (now (classes .entry)) keys (now (rest .entry))) ⌝ }
+// 7, 1 or 2 of the record at the front, which is to be of this kind and stands after so many; 0 where it is none of them.
+fn judge_head(rest: &[u8], kind: usize, limit: usize, count: usize) -> usize
+    ensures { λ r. ⌜ r ≡ firstOf (headTests kind limit count (now (rest .entry)) []) ⌝ }
 {
-    if too_many(rest, KEY_KIND, PROFILE_KEYS, keys) {
+    if too_many(rest, kind, limit, count) {
         return TOO_LARGE;
     }
     if !whole(rest) {
         return NOT_WHOLE;
     }
-    if word(rest, KIND_AT) != KEY_KIND {
+    if word(rest, KIND_AT) != kind {
         return NOT_ALLOWED;
+    }
+    0
+}
+
+// The number that the key record at the front gives, after so many keys: 7, 1, 2, then 4, 5, 6.
+pub fn judge_key(rest: &[u8], keys: usize, classes: &[u8; 256]) -> usize
+    ensures { λ r. ⌜ r ≡ firstOf (keyRecordTestsBy (now (classes .entry)) keys (now (rest .entry))) ⌝ }
+{
+    let head = judge_head(rest, KEY_KIND, PROFILE_KEYS, keys);
+    if head != 0 {
+        return head;
     }
     let end = word(rest, 0);
     key_refusal(
@@ -58,14 +71,9 @@ pub fn judge_key(rest: &[u8], keys: usize, classes: &[u8; 256]) -> usize
 pub fn judge_line(rest: &[u8], classes: &[u8; 256], lines: usize) -> usize
     ensures { λ r. ⌜ r ≡ firstOf (lineTestsBy (now (classes .entry)) lines (now (rest .entry))) ⌝ }
 {
-    if too_many(rest, LINE_KIND, PROOF_LINES, lines) {
-        return TOO_LARGE;
-    }
-    if !whole(rest) {
-        return NOT_WHOLE;
-    }
-    if word(rest, KIND_AT) != LINE_KIND {
-        return NOT_ALLOWED;
+    let head = judge_head(rest, LINE_KIND, PROOF_LINES, lines);
+    if head != 0 {
+        return head;
     }
     let end = word(rest, 0);
     key_refusal(

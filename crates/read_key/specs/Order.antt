@@ -11,7 +11,7 @@ use Rattle.meaning.specs.Lists.{lower, before, ascending}
 use Rattle.meaning.specs.Keys.{Key}
 use Rattle.meaning.specs.Refusals.{goodSet}
 use Rattle.read_record.specs.Scans.{drop-step}
-use Rattle.read_record.specs.Parts.{leadPath, afterPath}
+use Rattle.read_record.specs.BodyParts.{leadPath, afterPath}
 use Rattle.read_record.specs.KeyPaths.{AtPath, at-lead, at-next}
 use Rattle.read_key.specs.Symbols.{limitsOf}
 

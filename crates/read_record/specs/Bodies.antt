@@ -13,7 +13,7 @@ use borrow.Author.Tests.{le-leb, lt-leb, ne-eqb, leb-true, not-true, not-false}
 use Rattle.meaning.specs.Lists.{isEmpty}
 use Rattle.meaning.specs.Records.{word, recordLength, recordKind, recordBody, readKey, isSome, valueBytes, bodyEnds}
 use Rattle.meaning.specs.Refusals.{whole}
-use Rattle.read_record.specs.Parts.{holdsPath, leadPath, afterPath, pathsEnd, setEnds, setIn, keyEnds, isSome-parts}
+use Rattle.read_record.specs.BodyParts.{holdsPath, leadPath, afterPath, pathsEnd, setEnds, setIn, keyEnds, isSome-parts}
 
 pub holds-empty : (l : List ℕ) → length l ≡ 0 → false ≡ holdsPath l
 unfolding holdsPath

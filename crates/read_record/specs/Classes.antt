@@ -50,8 +50,8 @@ pub record Tabled (labels : List Label) (classes : List ℕ) : Type 0 where
   pub entry : (n : ℕ) → n < 256 → getD classes n 0 ≡ entryOf labels n
 
 -- Each member is a byte: what a slice's rule says of its elements
-abbrev pub Bytes : List ℕ → Type 0
-Bytes l = (i : ℕ) → getD l i 0 < 256
+abbrev pub ByteAt : List ℕ → Type 0
+ByteAt l = (i : ℕ) → getD l i 0 < 256
 
 -- a declared label is an element or an attribute, and one that is not declared counts as an element
 pick : Bool → Class

@@ -8,8 +8,8 @@ use native.Mathlib.Omega.{arith}
 use lib.ListN.{length, getD, drop, drop-of-length-le}
 use lib.Seq.{drop-cons}
 use Rattle.meaning.specs.Lists.{any, isEmpty}
-use Rattle.theory_paths.specs.Lists.{empty-length, some-length}
-use Rattle.read_record.specs.Parts.{holdsPath, leadPath, afterPath}
+use Rattle.theory_lists.specs.Lists.{empty-length, some-length}
+use Rattle.read_record.specs.BodyParts.{holdsPath, leadPath, afterPath}
 use Rattle.read_record.specs.KeyPaths.{AtPath, at-holds, at-lead, at-next}
 
 pub path-step : (ps : List (List ℕ)) (i : ℕ) → i < length ps → drop i ps ≡ getD ps i [] ∷ drop (i + 1) ps

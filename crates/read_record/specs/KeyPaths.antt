@@ -10,8 +10,8 @@ use lib.Seq.{drop-cons}
 use Rattle.meaning.specs.Lists.{every}
 use Rattle.meaning.specs.Records.{readKey, keyIn, isSome}
 use Rattle.read_record.specs.Scans.{Scan, scan-start, scan-next, scan-stop, scan-end}
-use Rattle.read_record.specs.Parts.{holdsPath, leadPath, afterPath, pathsEnd, setEnds, pathsOf, setOf, setIn, keyEnds, keyOf, isSome-parts, keyIn-parts}
-use Rattle.theory_paths.specs.Bools.{and-first, and-second}
+use Rattle.read_record.specs.BodyParts.{holdsPath, leadPath, afterPath, pathsEnd, setEnds, pathsOf, setOf, setIn, keyEnds, keyOf, isSome-parts, keyIn-parts}
+use Rattle.theory_lists.specs.Bools.{and-first, and-second}
 
 -- where the key paths begin, behind their count
 unfoldable pub pathsIn : List ℕ → List ℕ

@@ -2,7 +2,7 @@
 pub mod Scans
 pub mod Fields
 pub mod Names
-pub mod Parts
+pub mod BodyParts
 pub mod Bodies
 pub mod Classes
 pub mod ClassTests

@@ -8,9 +8,9 @@ use lib.ListN.{length, length-append, take-append-drop}
 use lib.Seq.{length-take-le, take-append-seam, drop-append-seam}
 use borrow.Author.Tests.{leb-true, le-leb}
 use Rattle.meaning.specs.Records.{pathBytes}
-use Rattle.theory_paths.specs.Bools.{and-first, and-second}
-use Rattle.theory_paths.specs.Lists.{empty-is}
-use Rattle.read_record.specs.Parts.{holdsPath, leadPath, afterPath, pathsEnd, pathsOf}
+use Rattle.theory_lists.specs.Bools.{and-first, and-second}
+use Rattle.theory_lists.specs.Lists.{empty-is}
+use Rattle.read_record.specs.BodyParts.{holdsPath, leadPath, afterPath, pathsEnd, pathsOf}
 
 -- so many whole paths, to the end, are their own bytes
 pub path-bytes : (l : List ℕ) → holdsPath l ≡ true → pathBytes (leadPath l) ++ afterPath l ≡ l

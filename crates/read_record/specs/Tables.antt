@@ -13,25 +13,25 @@ use Rattle.meaning.specs.Paths.{Label, Class, isElement, classOf, norm, join, v
 use Rattle.meaning.specs.Keys.{Key}
 use Rattle.meaning.specs.Records.{readKey, keyIn, isSome}
 use Rattle.meaning.specs.Refusals.{isSymbol, goodPath, goodSymbols, allValid, keyTests}
-use Rattle.read_record.specs.Parts.{leadPath, afterPath, pathsOf, setOf, setIn, keyOf, keyIn-parts}
-use Rattle.read_record.specs.Classes.{Tabled, Bytes, classBy, isSymbolBy, goodPathBy, goodSymbolsBy, allValidBy, keyTestsBy, class-tabled, symbol-tabled}
+use Rattle.read_record.specs.BodyParts.{leadPath, afterPath, pathsOf, setOf, setIn, keyOf, keyIn-parts}
+use Rattle.read_record.specs.Classes.{Tabled, ByteAt, classBy, isSymbolBy, goodPathBy, goodSymbolsBy, allValidBy, keyTestsBy, class-tabled, symbol-tabled}
 
 -- Parts of bytes are bytes
-pub bytes-take : (n : ℕ) (l : List ℕ) → Bytes l → Bytes (take n l)
+pub bytes-take : (n : ℕ) (l : List ℕ) → ByteAt l → ByteAt (take n l)
 bytes-take zero l h i = omega arith
 bytes-take (suc n) [] h i = omega arith
 bytes-take (suc n) (x ∷ l) h zero = h 0
 bytes-take (suc n) (x ∷ l) h (suc i) = bytes-take n l (λ j. h (suc j)) i
 
-pub bytes-drop : (n : ℕ) (l : List ℕ) → Bytes l → Bytes (drop n l)
+pub bytes-drop : (n : ℕ) (l : List ℕ) → ByteAt l → ByteAt (drop n l)
 bytes-drop n l h i = rw (getD-drop n l i 0) (h (n + i))
 
-bytes-append : (a b : List ℕ) → Bytes a → Bytes b → Bytes (a ++ b)
+bytes-append : (a b : List ℕ) → ByteAt a → ByteAt b → ByteAt (a ++ b)
 bytes-append [] b ha hb i = hb i
 bytes-append (x ∷ a) b ha hb zero = ha 0
 bytes-append (x ∷ a) b ha hb (suc i) = bytes-append a b (λ j. ha (suc j)) hb i
 
-bytes-norm : (p : List ℕ) → Bytes p → Bytes (norm p)
+bytes-norm : (p : List ℕ) → ByteAt p → ByteAt (norm p)
 unfolding norm
 bytes-norm [] h i = h i
 bytes-norm (suc a ∷ p) h zero = h 0
@@ -42,38 +42,38 @@ bytes-norm (zero ∷ suc a ∷ p) h zero = h 0
 bytes-norm (zero ∷ suc a ∷ p) h (suc zero) = h 1
 bytes-norm (zero ∷ suc a ∷ p) h (suc (suc i)) = bytes-norm p (λ j. h (suc (suc j))) i
 
-bytes-join : (p q : List ℕ) → Bytes p → Bytes q → Bytes (join p q)
+bytes-join : (p q : List ℕ) → ByteAt p → ByteAt q → ByteAt (join p q)
 unfolding join
 bytes-join p q hp hq = bytes-norm (p ++ q) (bytes-append p q hp hq)
 
-pub bytes-lead : (l : List ℕ) → Bytes l → Bytes (leadPath l)
+pub bytes-lead : (l : List ℕ) → ByteAt l → ByteAt (leadPath l)
 unfolding leadPath
 bytes-lead [] h = h
 bytes-lead (n ∷ l) h = bytes-take n l (λ j. h (suc j))
 
-pub bytes-after : (l : List ℕ) → Bytes l → Bytes (afterPath l)
+pub bytes-after : (l : List ℕ) → ByteAt l → ByteAt (afterPath l)
 unfolding afterPath
 bytes-after [] h = h
 bytes-after (n ∷ l) h = bytes-drop n l (λ j. h (suc j))
 
-pub bytes-paths : (count : ℕ) (l : List ℕ) → Bytes l → (n : ℕ) → Bytes (getD (pathsOf count l) n [])
+pub bytes-paths : (count : ℕ) (l : List ℕ) → ByteAt l → (n : ℕ) → ByteAt (getD (pathsOf count l) n [])
 unfolding pathsOf
 bytes-paths zero l h n i = omega arith
 bytes-paths (suc count) l h zero i = bytes-lead l h i
 bytes-paths (suc count) l h (suc n) i = bytes-paths count (afterPath l) (bytes-after l h) n i
 
-bytes-set : (set : List ℕ) → Bytes set → (n : ℕ) → Bytes (getD (setOf set) n [])
+bytes-set : (set : List ℕ) → ByteAt set → (n : ℕ) → ByteAt (getD (setOf set) n [])
 unfolding setOf
 bytes-set [] h n i = omega arith
 bytes-set (count ∷ l) h n i = bytes-paths count l (λ j. h (suc j)) n i
 
 -- A key whose symbols are bytes, as each key read off bytes is
 pub record ByteKey (k : Key) : Type 0 where
-  pub context : Bytes (k .context)
-  pub target : Bytes (k .target)
-  pub paths : (n : ℕ) → Bytes (getD (k .paths) n [])
+  pub context : ByteAt (k .context)
+  pub target : ByteAt (k .target)
+  pub paths : (n : ℕ) → ByteAt (getD (k .paths) n [])
 
-pub bytes-key : (body : List ℕ) → isSome (readKey body) ≡ true → Bytes body → ByteKey (keyIn body)
+pub bytes-key : (body : List ℕ) → isSome (readKey body) ≡ true → ByteAt body → ByteKey (keyIn body)
 unfolding keyOf setIn
 bytes-key body e h =
     rw (keyIn-parts body e)
@@ -89,14 +89,14 @@ every-agree d f g [] h = refl
 every-agree d f g (x ∷ l) h = ap₂ (λ (a b : Bool). a && b) (h 0) (every-agree d f g l (λ i. h (suc i)))
 
 module _ {labels : List Label} {classes : List ℕ} (tabled : Tabled labels classes) where
-  pub valid-tabled : (p : List ℕ) → Bytes p → valid (classBy classes) p ≡ valid (classOf labels) p
+  pub valid-tabled : (p : List ℕ) → ByteAt p → valid (classBy classes) p ≡ valid (classOf labels) p
   unfolding valid
   valid-tabled [] h = refl
   valid-tabled (s ∷ []) h = refl
   valid-tabled (s ∷ t ∷ p) h =
       ap₂ (λ (k : Class) (b : Bool). (eqb s 0 || isElement k) && b) (class-tabled tabled s (h 0)) (valid-tabled (t ∷ p) (λ j. h (suc j)))
 
-  pub path-tabled : (limit : ℕ) (p : List ℕ) → Bytes p → goodPathBy classes limit p ≡ goodPath labels limit p
+  pub path-tabled : (limit : ℕ) (p : List ℕ) → ByteAt p → goodPathBy classes limit p ≡ goodPath labels limit p
   unfolding goodPathBy goodPath
   path-tabled limit p h = rw (every-agree 0 (isSymbolBy classes) (isSymbol labels) p (λ i. symbol-tabled tabled (getD p i 0) (h i)))
 

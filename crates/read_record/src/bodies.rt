@@ -7,7 +7,7 @@ ghost use mathlib.Core.Path.{_≡_};
 ghost use mathlib.Core.Bool.{true};
 ghost use Rattle.meaning.specs.Records.{readKey, isSome, bodyEnds};
 ghost use Rattle.meaning.specs.Refusals.{whole as wholeRecord};
-ghost use Rattle.read_record.specs.Parts.{holdsPath, leadPath, afterPath, pathsEnd};
+ghost use Rattle.read_record.specs.BodyParts.{holdsPath, leadPath, afterPath, pathsEnd};
 
 // The kinds of record
 pub const LABEL_KIND: usize = 1;

@@ -9,7 +9,7 @@ ghost use Prim.Native.Nat.{_<_};
 ghost use lib.ListN.{length, getD};
 ghost use Rattle.meaning.specs.Lists.{any, isEmpty};
 ghost use Rattle.meaning.specs.Records.{readKey, keyIn, isSome};
-ghost use Rattle.read_record.specs.Parts.{setIn};
+ghost use Rattle.read_record.specs.BodyParts.{setIn};
 ghost use Rattle.read_record.specs.KeyPaths.{AtPath};
 
 // The symbols of C.

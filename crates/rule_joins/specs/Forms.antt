@@ -10,7 +10,7 @@ use lib.Seq.{take-all, take-append-seam}
 use borrow.Author.Tests.{eq-eqb, ne-eqb}
 use Rattle.meaning.specs.Lists.{same}
 use Rattle.meaning.specs.Paths.{normal}
-use Rattle.theory_paths.specs.Bools.{same-eq, eq-same, false-of}
+use Rattle.theory_lists.specs.Bools.{same-eq, eq-same, false-of}
 
 -- p begins with s
 unfoldable pub isBeginning : List ℕ → List ℕ → Bool

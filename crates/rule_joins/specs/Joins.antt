@@ -1,19 +1,20 @@
 -- Joins that are tested and not built: of two paths in normal form the join is their append, or their append without the second 0
 -- where the first ends and the second begins with the any-path.
-use Prim.Native.Nat.{ℕ, zero, suc, _≤_, _<_, _-_}
+use Prim.Native.Nat.{ℕ, zero, suc, _≤_, _-_}
 use native.Mathlib.Omega.{arith}
 use mathlib.Core.Path.{_≡_, refl, sym, ap, ap₂, subst, _∙_}
 use mathlib.Core.Bool.{Bool, true, false, _&&_, not}
 use mathlib.Core.List.{List, [], _∷_, _++_, append-assoc, append-nil}
 use lib.Dec.{T, eqb, eqb→eq}
-use lib.ListN.{length, take, drop, getD, length-append}
+use lib.ListN.{length, take, drop, getD}
 use lib.Seq.{take-suc, take-length}
 use borrow.Rule.Slice.PartAt.{part-to-end}
 use Rattle.meaning.specs.Lists.{same}
 use Rattle.meaning.specs.Paths.{normal, norm, join}
-use Rattle.theory_paths.specs.Bools.{and-left, and-right, of-true}
+use Rattle.theory_lists.specs.Bools.{and-left, and-right, of-true}
 use Rattle.theory_paths.specs.Normal.{norm-of-normal, join-nil-left, join-nil-right, norm-doubled}
-use Rattle.rule_joins.specs.Forms.{isDoubled, normal-two, same-other-length}
+use Rattle.rule_joins.specs.Forms.{isDoubled, normal-two}
+use Rattle.rule_joins.specs.Both.{same-sym}
 
 -- two paths in normal form that share their meeting symbol
 pub normal-glue : (x : List ℕ) (s : ℕ) (y : List ℕ) → T (normal (x ++ (s ∷ []))) → T (normal (s ∷ y)) → T (normal (x ++ (s ∷ y)))
@@ -123,31 +124,6 @@ module _ (x y : List ℕ) (b : BothNormal x y) where
           joined = shared e ∙ sym (ap (λ (l : List ℕ). l ++ y′) (ends-any e) ∙ append-assoc x′ (0 ∷ []) y′);
         }
 
--- Laws of `append_is`: the parts of t are x and y
-same-append : (x y t : List ℕ) → length x ≤ length t → same (x ++ y) t ≡ (same x (take (length x) t) && same y (drop (length x) t))
-unfolding same
-same-append [] y t h = refl
-same-append (s ∷ x) y [] h = absurd (omega arith)
-same-append (s ∷ x) y (k ∷ t) h =
-    ap (λ (b : Bool). eqb s k && b) (same-append x y t (omega arith)) ∙ regroup (eqb s k) (same x (take (length x) t)) (same y (drop (length x) t))
-  where
-    regroup : (a b c : Bool) → (a && (b && c)) ≡ (a && b && c)
-    regroup true b c = refl
-    regroup false b c = refl
-
-pub append-short : (x y t : List ℕ) → length t < length x → false ≡ same (x ++ y) t
-append-short x y t l = same-other-length (x ++ y) t (λ e. absurd (longer e))
-  where
-    longer : length (x ++ y) ≡ length t → ⊥
-    longer e = let f = sym (length-append x y) ∙ e in omega arith
-
-pub append-other : (x y t : List ℕ) (r : Bool) → length x ≤ length t → r ≡ same x (take (length x) t) → r ≡ false → false ≡ same (x ++ y) t
-append-other x y t r l d e = sym (same-append x y t l ∙ ap (λ (b : Bool). b && same y (drop (length x) t)) (sym d ∙ e))
-
-pub append-rest : (x y t : List ℕ) (r a : Bool) → length x ≤ length t → r ≡ same x (take (length x) t) → r ≡ true
-    → a ≡ same y (take (length t - length x) (drop (length x) t)) → a ≡ same (x ++ y) t
-append-rest x y t r a l d e h =
-    h ∙ ap (same y) (part-to-end t (length x)) ∙ sym (same-append x y t l ∙ ap (λ (b : Bool). b && same y (drop (length x) t)) (sym d ∙ e))
-
-pub joined-same : (x y t : List ℕ) (n : ℕ) (r : Bool) → Overlap x y n → r ≡ same (x ++ take (length y - n) (drop n y)) t → r ≡ same (join x y) t
-joined-same x y t n r o e = e ∙ ap (λ (l : List ℕ). same l t) (ap (λ (l : List ℕ). x ++ l) (part-to-end y n) ∙ sym (o .joined))
+pub joined-same : (x y t : List ℕ) (n : ℕ) (r : Bool) → Overlap x y n → r ≡ same t (x ++ take (length y - n) (drop n y)) → r ≡ same (join x y) t
+joined-same x y t n r o e =
+    e ∙ ap (same t) (ap (λ (l : List ℕ). x ++ l) (part-to-end y n) ∙ sym (o .joined)) ∙ same-sym t (join x y)

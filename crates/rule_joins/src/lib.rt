@@ -46,18 +46,18 @@ fn overlap(x: &[u8], y: &[u8]) -> usize
     0
 }
 
-// x with y behind it is t.
-fn append_is(x: &[u8], y: &[u8], t: &[u8]) -> bool
-    ensures { λ r. ⌜ r ≡ isSame (now (x .entry) ++ now (y .entry)) (now (t .entry)) ⌝ }
+// The path is the front and then the back.
+pub fn is_both(path: &[u8], front: &[u8], back: &[u8]) -> bool
+    ensures { λ r. ⌜ r ≡ isSame (now (path .entry)) (now (front .entry) ++ now (back .entry)) ⌝ }
 {
-    let n = x.len();
-    if t.len() < n {
+    let n = front.len();
+    if path.len() < n {
         return false;
     }
-    if !same_bytes(x, &t[..n]) {
+    if !same_bytes(&path[..n], front) {
         return false;
     }
-    same_bytes(y, &t[n..])
+    same_bytes(&path[n..], back)
 }
 
 // The join of x and y, both in normal form, is t.
@@ -66,5 +66,5 @@ pub fn join_is(x: &[u8], y: &[u8], t: &[u8]) -> bool
     ensures { λ r. ⌜ r ≡ isSame (join (now (x .entry)) (now (y .entry))) (now (t .entry)) ⌝ }
 {
     let n = overlap(x, y);
-    append_is(x, &y[n..], t)
+    is_both(t, x, &y[n..])
 }

@@ -16,10 +16,10 @@ use Rattle.meaning.specs.Paths.{Label, Class, isAttribute, singles}
 use Rattle.meaning.specs.Keys.{Key}
 use Rattle.meaning.specs.Rules.{Line, lineKeys, FollowsAt, FollowsBelow, EndsWith}
 use Rattle.meaning.specs.Records.{word, recordLength, recordBody, readKey, keyIn, isSome, readLine, keyBody}
-use Rattle.meaning.specs.Refusals.{Walked, firstOf, walk, lineTests, proofWalked, profileRefusal, questionRefusal, questionIn, firstEntry}
-use Rattle.meaning.specs.Operations.{recordsFrom, Answer, refusedBy, plain, accepted, ProofJudged, unfollowed, faulty, otherEnd, proved, secondIn, singleIn, labelsIn, keysIn}
+use Rattle.meaning.specs.Refusals.{Walked, firstOf, walk, lineTests, proofWalked, questionIn}
+use Rattle.meaning.specs.Operations.{recordsFrom, Answer, refusedBy, plain, accepted, ProofJudged, unfollowed, faulty, otherEnd, proved, singleIn, labelsIn, keysIn}
 use Rattle.theory_paths.specs.Good.{GoodLabels}
-use Rattle.theory_paths.specs.Bools.{same-eq, eq-same, of-true, of-false}
+use Rattle.theory_lists.specs.Bools.{same-eq, eq-same, of-true, of-false}
 use Rattle.theory_rule_tests.specs.LineTest.{unused, followsTest}
 use Rattle.theory_rule_tests.specs.EditionTest.{oneAttribute, tenthTest, followsInTest}
 use Rattle.theory_records.specs.Bytes.{Bytes, bytes-at, bytes-drop}
@@ -40,7 +40,7 @@ use Rattle.read_inputs.specs.Agree.{line-agrees}
 use Rattle.read_inputs.specs.Accepted.{Given}
 use Rattle.read_judged.specs.declared.Judged.{Judged}
 use Rattle.read_judged.specs.declared.Judged.the-variants.{Sound, Refused}
-use Rattle.rule_tests.specs.Parts.{line-key}
+use Rattle.rule_tests.specs.SetBytes.{line-key}
 use Rattle.rule_lines.specs.Premises.{linesFrom, LineRecord, Earlier, LineBody, line-at, line-none}
 use Rattle.rule_lines.specs.ProofLines.{lines-more}
 use Rattle.rule_lines.specs.Following.{still-below, new-did-follow, below-more, told-follows, told-not}

@@ -16,7 +16,7 @@ use Rattle.meaning.specs.Paths.{Label}
 use Rattle.meaning.specs.Keys.{Key}
 use Rattle.meaning.specs.Rules.{Line, FollowsIn, lineKeys, FollowsAt, FollowsBelow}
 use Rattle.theory_paths.specs.Good.{GoodLabels, GoodKey}
-use Rattle.theory_paths.specs.Bools.{of-true, of-false}
+use Rattle.theory_lists.specs.Bools.{of-true, of-false}
 use Rattle.theory_rule_tests.specs.EditionTest.{followsInTest, test-follows-in, follows-in-test}
 use Rattle.theory_records.specs.Places.{at-seam, at-left}
 

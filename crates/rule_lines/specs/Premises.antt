@@ -14,7 +14,7 @@ use Rattle.meaning.specs.Keys.{Key}
 use Rattle.meaning.specs.Records.{word, recordLength, recordBody, readKey, keyIn, isSome, readLine, keyBody}
 use Rattle.meaning.specs.Rules.{Line, lineKeys}
 use Rattle.meaning.specs.Operations.{recordsFrom}
-use Rattle.theory_paths.specs.Bools.{bool-eq, same-eq, eq-same}
+use Rattle.theory_lists.specs.Bools.{bool-eq, same-eq, eq-same}
 use Rattle.theory_rule_tests.specs.SameParts.{prefixEpsilonTest, superkeyTest, contextPathTest, targetPathTest}
 use Rattle.theory_rule_tests.specs.Subnodes.{subnodesTest, subnodesEpsilonTest}
 use Rattle.theory_rule_tests.specs.Cuts.{contextTargetTest}
@@ -23,7 +23,7 @@ use Rattle.theory_rule_tests.specs.LineTest.{sameKey, same-key-eq, eq-same-key,
 use Rattle.theory_records.specs.KeyBodies.{key-in-written}
 use Rattle.theory_records.specs.KeyPlaces.{keysFrom, KeyRecord, key-shape, KeyRecords, key-at, key-none}
 use Rattle.read_inputs.specs.Keys.{line-key-part}
-use Rattle.rule_tests.specs.Parts.{LineKey, LineKeys}
+use Rattle.rule_tests.specs.SetBytes.{LineKey, LineKeys}
 
 -- so many lines from here on
 unfoldable pub linesFrom : ℕ → List ℕ → List Line

@@ -39,7 +39,7 @@ ghost use Rattle.meaning.specs.Paths.{singles};
 ghost use Rattle.read_record.specs.Classes.{classBy};
 ghost use Rattle.theory_rule_tests.specs.LineTest.{followsTest};
 ghost use Rattle.theory_rule_tests.specs.EditionTest.{tenthTest, followsInTest};
-ghost use Rattle.rule_tests.specs.Parts.{LineKey, LineKeys};
+ghost use Rattle.rule_tests.specs.SetBytes.{LineKey, LineKeys};
 ghost use Rattle.theory_records.specs.KeyPlaces.{keysFrom, KeyRecords};
 ghost use Rattle.rule_lines.specs.Premises.{linesFrom, LineRecord, Earlier, LineBody, oneTest, cited, byOne, byTwo};
 

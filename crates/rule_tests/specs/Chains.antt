@@ -11,8 +11,9 @@ use Rattle.theory_rule_tests.specs.SameParts.{sameContext, sameTarget, sameSets
 use Rattle.theory_rule_tests.specs.Subnodes.{goesOn, subnodesTest, subnodesEpsilonTest}
 use Rattle.theory_rule_tests.specs.Cuts.{endsPath, contextTargetTest}
 use Rattle.theory_rule_tests.specs.Interactions.{prefixed, interactionTest}
-use Rattle.rule_tests.specs.Compare.{same-sym, stop, go-on, and-three, test-true}
-use Rattle.rule_tests.specs.Parts.{LineKeys}
+use Rattle.rule_joins.specs.Both.{same-sym}
+use Rattle.rule_tests.specs.Compare.{stop, go-on, and-three, test-true}
+use Rattle.rule_tests.specs.SetBytes.{LineKeys}
 use Rattle.rule_tests.specs.RuleLaws.{Cut, longerOnly, longerLast, cutContext, premisesMeet, concludes, interaction-parts}
 
 module _ (p k : Key) where

@@ -1,5 +1,5 @@
 pub mod Compare
-pub mod Parts
+pub mod SetBytes
 pub mod Walks
 pub mod RuleLaws
 pub mod Chains

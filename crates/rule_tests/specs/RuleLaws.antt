@@ -16,9 +16,9 @@ use Rattle.meaning.specs.Paths.{normal, simple, join}
 use Rattle.meaning.specs.Keys.{Key}
 use Rattle.meaning.specs.Records.{keyIn}
 use Rattle.meaning.specs.Rules.{withEmpty}
-use Rattle.theory_paths.specs.Bools.{bool-eq, same-eq, eq-same, and-left, and-right, both, of-true, true-of, false-of}
+use Rattle.theory_lists.specs.Bools.{bool-eq, same-eq, eq-same, and-left, and-right, both, of-true, true-of, false-of}
 use Rattle.theory_paths.specs.Normal.{normal-left}
-use Rattle.theory_paths.specs.Lists.{with-empty-last}
+use Rattle.theory_lists.specs.Lists.{with-empty-last}
 use Rattle.theory_rule_tests.specs.Beginnings.{begins, begins-split}
 use Rattle.theory_rule_tests.specs.SameParts.{sameContext, sameSets, sets-eq, eq-sets}
 use Rattle.theory_rule_tests.specs.Subnodes.{goesOn, further, onlyPath, lastPath}
@@ -27,8 +27,9 @@ use Rattle.theory_rule_tests.specs.Interactions.{prefixed, interactionTest}
 use Rattle.rule_joins.specs.Joins.{BothNormal}
 use Rattle.rule_joins.specs.Forms.{isBeginning, beginning-rest}
 use Rattle.rule_tests.specs.Walks.{beginning-is}
-use Rattle.rule_tests.specs.Compare.{same-sym, stop, go-on}
-use Rattle.rule_tests.specs.Parts.{TwoKeys, LineKey, LineKeys}
+use Rattle.rule_joins.specs.Both.{same-sym}
+use Rattle.rule_tests.specs.Compare.{stop, go-on}
+use Rattle.rule_tests.specs.SetBytes.{TwoKeys, LineKey, LineKeys}
 
 -- T goes on behind the new target
 pub record Further (p k : List ℕ) : Type 0 where

@@ -8,10 +8,10 @@ use lib.Dec.{T}
 use lib.ListN.{length, drop, drop-of-length-le}
 use borrow.Author.Tests.{not-true, not-false}
 use Rattle.meaning.specs.Lists.{every, same}
-use Rattle.read_record.specs.Parts.{holdsPath, leadPath, afterPath}
+use Rattle.read_record.specs.BodyParts.{holdsPath, leadPath, afterPath}
 use Rattle.read_record.specs.KeyPaths.{AtPath}
 use Rattle.read_record.specs.Hunts.{Stands, here, stands-holds, stands-lead, stands-next, path-step}
-use Rattle.theory_paths.specs.Bools.{bool-eq}
+use Rattle.theory_lists.specs.Bools.{bool-eq}
 use Rattle.theory_rule_tests.specs.SameParts.{sameSets}
 use Rattle.theory_rule_tests.specs.Interactions.{prefixed}
 use Rattle.theory_rule_tests.specs.Beginnings.{begins, begins-split, begins-append}

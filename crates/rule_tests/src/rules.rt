@@ -1,5 +1,4 @@
 // Rules 2 to 9 (document 01, "Rules of inference"), each on the bodies of its premises and of the new key.
-use crate::compare::is_both;
 use crate::sets::all_among;
 use crate::sets::all_begin;
 use crate::sets::is_prefixed;
@@ -14,6 +13,7 @@ use read_record::keys::path;
 use read_record::keys::target;
 use read_record::names::same_bytes;
 use rule_joins::begins;
+use rule_joins::is_both;
 use rule_joins::join_is;
 ghost use Prim.Native.Nat.{_<_};
 ghost use mathlib.Core.Path.{_≡_};
@@ -25,7 +25,7 @@ ghost use Rattle.theory_rule_tests.specs.SameParts.{sameContext, sameTarget, sa
 ghost use Rattle.theory_rule_tests.specs.Subnodes.{goesOn, lastPath, subnodesTest, subnodesEpsilonTest};
 ghost use Rattle.theory_rule_tests.specs.Cuts.{endsPath, startsAny, contextTargetTest};
 ghost use Rattle.theory_rule_tests.specs.Interactions.{interactionTest};
-ghost use Rattle.rule_tests.specs.Parts.{TwoKeys, LineKeys};
+ghost use Rattle.rule_tests.specs.SetBytes.{TwoKeys, LineKeys};
 ghost use Rattle.rule_tests.specs.RuleLaws.{Further, Cut, longerOnly, longerLast, cutContext, premisesMeet, concludes};
 
 pub fn same_context(p: &[u8], k: &[u8]) -> bool

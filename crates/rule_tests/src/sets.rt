@@ -1,5 +1,4 @@
 // Sets of key paths as they stand in key bodies: "count of key paths; length and symbols of each".
-use crate::compare::is_both;
 use read_record::bodies::after_path;
 use read_record::bodies::lead_path;
 use read_record::keys::count;
@@ -7,6 +6,7 @@ use read_record::keys::counted_set;
 use read_record::keys::paths;
 use read_record::names::same_bytes;
 use rule_joins::begins;
+use rule_joins::is_both;
 ghost use mathlib.Core.Path.{_≡_};
 ghost use mathlib.Core.Bool.{true};
 ghost use Rattle.meaning.specs.Lists.{any, same as isSame};
@@ -14,7 +14,7 @@ ghost use Rattle.meaning.specs.Records.{readKey, keyIn, isSome};
 ghost use Rattle.theory_rule_tests.specs.Beginnings.{begins as isBeginning};
 ghost use Rattle.theory_rule_tests.specs.SameParts.{allBegin, allAmong, sameSets};
 ghost use Rattle.theory_rule_tests.specs.Interactions.{prefixed};
-ghost use Rattle.rule_tests.specs.Parts.{TwoKeys};
+ghost use Rattle.rule_tests.specs.SetBytes.{TwoKeys};
 
 // Equal sets are equal bytes: each set has one encoding.
 pub fn same_sets(p: &[u8], k: &[u8]) -> bool

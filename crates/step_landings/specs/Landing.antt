@@ -13,46 +13,46 @@ use Rattle.meaning.specs.Lists.{any, isEmpty, same, numbers}
 use Rattle.meaning.specs.Keys.{Key}
 use Rattle.meaning.specs.Records.{readKey, keyIn, isSome}
 use Rattle.meaning.specs.Pattern.{tOf}
-use Rattle.theory_paths.specs.Bools.{false-of, same-eq}
-use Rattle.theory_derive.specs.Spots.{lineOf, part, holdsEmpty, markedAt, landsOn, lands}
-use Rattle.theory_derive.specs.Lines.{line-length}
-use Rattle.theory_derive.specs.Parts.{part-drop}
-use Rattle.step_rows.specs.Drawn.{Drawn, HasLine, lineIn, drawn-has, drawn-is}
+use Rattle.theory_lists.specs.Bools.{false-of, same-eq}
+use Rattle.theory_pattern.specs.Spots.{rowOf, part, holdsEmpty, markedAt, landsOn, lands}
+use Rattle.theory_pattern.specs.Rows.{row-length}
+use Rattle.theory_pattern.specs.RowParts.{part-drop}
+use Rattle.step_rows.specs.Drawn.{Drawn, HasRow, rowIn, drawn-has, drawn-is}
 
--- a line's marks and landings, the line given
+-- a row's marks and landings, the row given
 unfoldable pub markedIn : Key → List ℕ → ℕ → Bool
-markedIn asked line k = eqb k (length line) || (holdsEmpty asked && leb (tOf asked) k)
+markedIn asked row k = eqb k (length row) || (holdsEmpty asked && leb (tOf asked) k)
 
 unfoldable pub landsIn : Key → List ℕ → ℕ → List ℕ → Bool
-landsIn asked line k p = same (part k (k + length p) line) p && markedIn asked line (k + length p)
+landsIn asked row k p = same (part k (k + length p) row) p && markedIn asked row (k + length p)
 
-pub lands-line : (asked : Key) (j k : ℕ) (p line : List ℕ) → line ≡ lineOf asked j → landsIn asked line k p ≡ landsOn asked k p j
+pub lands-row : (asked : Key) (j k : ℕ) (p row : List ℕ) → row ≡ rowOf asked j → landsIn asked row k p ≡ landsOn asked k p j
 unfolding landsOn landsIn markedAt markedIn
-lands-line asked j k p line e = ap (λ (l : List ℕ). landsIn asked l k p) e
+lands-row asked j k p row e = ap (λ (l : List ℕ). landsIn asked l k p) e
 
--- the code's part of a line
+-- the code's part of a row
 pub part-is : (i k : ℕ) (l : List ℕ) → i ≤ k → k ≤ length l → take (k - i) (drop i l) ≡ part i k l
 unfolding part
 part-is i k l h b = ap (take (k - i)) (sym (part-drop i k l h)) ∙ take-at (part i k l) (drop k l) (k - i) (length-slice i k l b)
 
 -- What the functions are given
-pub record OnLine (body line : List ℕ) (k : ℕ) : Type 0 where
+pub record OnRow (body row : List ℕ) (k : ℕ) : Type 0 where
   pub isKey : isSome (readKey body) ≡ true
-  pub within : k ≤ length line
+  pub within : k ≤ length row
 
-pub record OnChain (body lines : List ℕ) (k : ℕ) : Type 0 where
+pub record OnChain (body rows : List ℕ) (k : ℕ) : Type 0 where
   pub isKey : isSome (readKey body) ≡ true
-  pub drawn : Drawn (keyIn body) lines
+  pub drawn : Drawn (keyIn body) rows
   pub chain : k ≤ tOf (keyIn body)
 
-pub record OnSpot (body lines : List ℕ) (j k : ℕ) : Type 0 where
+pub record OnSpot (body rows : List ℕ) (j k : ℕ) : Type 0 where
   pub isKey : isSome (readKey body) ≡ true
-  pub drawn : Drawn (keyIn body) lines
+  pub drawn : Drawn (keyIn body) rows
   pub branch : j < length (keyIn body .paths)
-  pub within : k ≤ length (lineOf (keyIn body) j)
+  pub within : k ≤ length (rowOf (keyIn body) j)
 
-pub record KeyOnSpot (body lines key : List ℕ) (j k : ℕ) : Type 0 where
-  pub spot : OnSpot body lines j k
+pub record KeyOnSpot (body rows key : List ℕ) (j k : ℕ) : Type 0 where
+  pub spot : OnSpot body rows j k
   pub isKey : isSome (readKey key) ≡ true
 
 -- the number of t
@@ -61,50 +61,50 @@ unfolding tOf
 chain-end asked e q = ap₂ (λ (a b : List ℕ). length a + length b) e q
 
 -- marks
-module _ (asked : Key) (line : List ℕ) (k : ℕ) where
-  pub marked-end : k ≡ length line → true ≡ markedIn asked line k
+module _ (asked : Key) (row : List ℕ) (k : ℕ) where
+  pub marked-end : k ≡ length row → true ≡ markedIn asked row k
   unfolding markedIn
-  marked-end e = rw (eq-eqb k (length line) e)
+  marked-end e = rw (eq-eqb k (length row) e)
 
-  module _ (n : k ≡ length line → ⊥) {t : ℕ} (m : t ≡ tOf asked) where
-    pub marked-above : k < t → false ≡ markedIn asked line k
+  module _ (n : k ≡ length row → ⊥) {t : ℕ} (m : t ≡ tOf asked) where
+    pub marked-above : k < t → false ≡ markedIn asked row k
     unfolding markedIn
-    marked-above h = rw (ne-eqb k (length line) n, lt-leb (tOf asked) k (omega arith)) (go (holdsEmpty asked))
+    marked-above h = rw (ne-eqb k (length row) n, lt-leb (tOf asked) k (omega arith)) (go (holdsEmpty asked))
       where
         go : (b : Bool) → false ≡ (b && false)
         go true = refl
         go false = refl
 
-    pub marked-below : t ≤ k → {r : Bool} → r ≡ any isEmpty (asked .paths) → r ≡ markedIn asked line k
+    pub marked-below : t ≤ k → {r : Bool} → r ≡ any isEmpty (asked .paths) → r ≡ markedIn asked row k
     unfolding markedIn holdsEmpty
-    marked-below h {r} e = rw (ne-eqb k (length line) n, le-leb (tOf asked) k (omega arith), sym e) (go r)
+    marked-below h {r} e = rw (ne-eqb k (length row) n, le-leb (tOf asked) k (omega arith), sym e) (go r)
       where
         go : (b : Bool) → b ≡ (b && true)
         go true = refl
         go false = refl
 
--- landings on one line
-module _ {body line : List ℕ} {k : ℕ} (o : OnLine body line k) (p : List ℕ) where
-  pub lands-short : length line - k < length p → false ≡ landsIn (keyIn body) line k p
+-- landings on one row
+module _ {body row : List ℕ} {k : ℕ} (o : OnRow body row k) (p : List ℕ) where
+  pub lands-short : length row - k < length p → false ≡ landsIn (keyIn body) row k p
   unfolding landsIn part
-  lands-short h = rw (false-of (same (drop k (take (k + length p) line)) p) other)
+  lands-short h = rw (false-of (same (drop k (take (k + length p) row)) p) other)
     where
-      other : T (same (drop k (take (k + length p) line)) p) → ⊥
-      other t = omega (arith, ap length (same-eq _ _ t), length-drop k (take (k + length p) line), length-take (k + length p) line)
+      other : T (same (drop k (take (k + length p) row)) p) → ⊥
+      other t = omega (arith, ap length (same-eq _ _ t), length-drop k (take (k + length p) row), length-take (k + length p) row)
 
-  module _ (h : length p ≤ length line - k) {r : Bool} (e : r ≡ same (take (k + length p - k) (drop k line)) p) where
-    reads : same (part k (k + length p) line) p ≡ r
-    reads = ap (λ (l : List ℕ). same l p) (sym (part-is k (k + length p) line (omega arith) (let w = o .within in omega arith))) ∙ sym e
+  module _ (h : length p ≤ length row - k) {r : Bool} (e : r ≡ same (take (k + length p - k) (drop k row)) p) where
+    reads : same (part k (k + length p) row) p ≡ r
+    reads = ap (λ (l : List ℕ). same l p) (sym (part-is k (k + length p) row (omega arith) (let w = o .within in omega arith))) ∙ sym e
 
-    pub lands-other : not r ≡ true → false ≡ landsIn (keyIn body) line k p
+    pub lands-other : not r ≡ true → false ≡ landsIn (keyIn body) row k p
     unfolding landsIn
     lands-other t = rw (reads ∙ not-true _ t)
 
-    pub lands-mark : not r ≡ false → {m : Bool} → m ≡ markedIn (keyIn body) line (k + length p) → m ≡ landsIn (keyIn body) line k p
+    pub lands-mark : not r ≡ false → {m : Bool} → m ≡ markedIn (keyIn body) row (k + length p) → m ≡ landsIn (keyIn body) row k p
     unfolding landsIn
     lands-mark t q = rw (reads ∙ not-false _ t, q)
 
--- some line of the asked key: those that are left pass exactly where all do
+-- some row of the asked key: those that are left pass exactly where all do
 pub record Sweep (f : ℕ → Bool) (m n j : ℕ) : Type 0 where
   pub number : n ≡ m
   pub within : j ≤ n
@@ -139,38 +139,38 @@ module _ {f : ℕ → Bool} {m n j : ℕ} (s : Sweep f m n j) where
   unfolding any numbers
   sweep-done h = let z : m - j ≡ 0 = (let e = s .number in omega arith) in sym (ap (λ (c : ℕ). any f (numbers c j)) z) ∙ s .left
 
--- a chain node stands on each line
-module _ {body lines : List ℕ} {k : ℕ} (o : OnChain body lines k) {j : ℕ} (h : j < length (keyIn body .paths)) where
-  pub chain-has : HasLine lines j
+-- a chain node stands on each row
+module _ {body rows : List ℕ} {k : ℕ} (o : OnChain body rows k) {j : ℕ} (h : j < length (keyIn body .paths)) where
+  pub chain-has : HasRow rows j
   chain-has = drawn-has (o .drawn) h
 
-  pub chain-on : {line : List ℕ} → line ≡ lineIn lines j → OnLine body line k
-  chain-on {line} e =
+  pub chain-on : {row : List ℕ} → row ≡ rowIn rows j → OnRow body row k
+  chain-on {row} e =
       record {
         isKey = o .isKey;
-        within = let c = o .chain in omega (arith, ap length (drawn-is (o .drawn) h e), line-length (keyIn body) j);
+        within = let c = o .chain in omega (arith, ap length (drawn-is (o .drawn) h e), row-length (keyIn body) j);
       }
 
-  pub chain-lands : (p : List ℕ) {line : List ℕ} → line ≡ lineIn lines j → {r : Bool} → r ≡ landsIn (keyIn body) line k p
+  pub chain-lands : (p : List ℕ) {row : List ℕ} → row ≡ rowIn rows j → {r : Bool} → r ≡ landsIn (keyIn body) row k p
       → r ≡ landsOn (keyIn body) k p j
-  chain-lands p {line} e q = q ∙ lands-line (keyIn body) j k p line (drawn-is (o .drawn) h e)
+  chain-lands p {row} e q = q ∙ lands-row (keyIn body) j k p row (drawn-is (o .drawn) h e)
 
 -- "for some j' (j' = j where k > n)"
-module _ {body lines : List ℕ} {j k : ℕ} (o : OnSpot body lines j k) {t : ℕ} (q : t ≡ tOf (keyIn body)) where
-  pub spot-chain : k ≤ t → OnChain body lines k
+module _ {body rows : List ℕ} {j k : ℕ} (o : OnSpot body rows j k) {t : ℕ} (q : t ≡ tOf (keyIn body)) where
+  pub spot-chain : k ≤ t → OnChain body rows k
   spot-chain h = record { isKey = o .isKey; drawn = o .drawn; chain = omega arith }
 
   pub lands-some : k ≤ t → (p : List ℕ) {r : Bool} → r ≡ any (landsOn (keyIn body) k p) (numbers (length (keyIn body .paths)) 0) → r ≡ lands (keyIn body) j k p
   unfolding lands
   lands-some h p e = rw (le-leb k (tOf (keyIn body)) (omega arith)) e
 
-  pub spot-on : {line : List ℕ} → line ≡ lineIn lines j → OnLine body line k
+  pub spot-on : {row : List ℕ} → row ≡ rowIn rows j → OnRow body row k
   spot-on e = record { isKey = o .isKey; within = let w = o .within in omega (arith, ap length (drawn-is (o .drawn) (o .branch) e)) }
 
-  pub lands-branch : t < k → (p : List ℕ) {line : List ℕ} → line ≡ lineIn lines j → {r : Bool} → r ≡ landsIn (keyIn body) line k p → r ≡ lands (keyIn body) j k p
+  pub lands-branch : t < k → (p : List ℕ) {row : List ℕ} → row ≡ rowIn rows j → {r : Bool} → r ≡ landsIn (keyIn body) row k p → r ≡ lands (keyIn body) j k p
   unfolding lands
-  lands-branch h p {line} e s =
-      rw (lt-leb k (tOf (keyIn body)) (omega arith)) (s ∙ lands-line (keyIn body) j k p line (drawn-is (o .drawn) (o .branch) e))
+  lands-branch h p {row} e s =
+      rw (lt-leb k (tOf (keyIn body)) (omega arith)) (s ∙ lands-row (keyIn body) j k p row (drawn-is (o .drawn) (o .branch) e))
 
-pub spot-has : {body lines : List ℕ} {j k : ℕ} → OnSpot body lines j k → HasLine lines j
+pub spot-has : {body rows : List ℕ} {j k : ℕ} → OnSpot body rows j k → HasRow rows j
 spot-has o = drawn-has (o .drawn) (o .branch)

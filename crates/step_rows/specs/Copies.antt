@@ -14,8 +14,8 @@ pub record Copied (old : List ℕ) (at : ℕ) (run new : List ℕ) : Type 0 wher
   pub written : take (at + length run) new ≡ take at old ++ run
 
 -- there is room for it
-pub record Room (lines : List ℕ) (at : ℕ) (run : List ℕ) : Type 0 where
-  pub size : length lines ≡ 100
+pub record Room (rows : List ℕ) (at : ℕ) (run : List ℕ) : Type 0 where
+  pub size : length rows ≡ 100
   pub fits : at + length run ≤ 100
 
 -- so many symbols of the run are written

@@ -15,16 +15,16 @@ use Rattle.meaning.specs.Refusals.{firstEntry, profileRefusal, questionRefusal,
 use Rattle.meaning.specs.Operations.{recordsFrom, secondIn, singleIn, labelsIn, keysIn}
 use Rattle.meaning.specs.Pattern.{tOf, IsU}
 use Rattle.theory_paths.specs.Good.{GoodKey, context-length, target-length, key-path-length, paths-some, paths-within}
-use Rattle.theory_paths.specs.Lists.{getD-mem}
+use Rattle.theory_lists.specs.Lists.{getD-mem}
 use Rattle.theory_records.specs.Encodings.{ends-key}
 use Rattle.theory_records.specs.Profiles.{accepted-labels, accepted-keys}
 use Rattle.theory_records.specs.Questions.{question-accepts}
-use Rattle.theory_derive.specs.Spots.{Ends, Chain}
+use Rattle.theory_pattern.specs.Spots.{Ends, Chain}
 use Rattle.theory_derive.specs.Ranges.{none-left}
 use Rattle.theory_derive.specs.Lowest.{chain-is-u}
 use Rattle.theory_records.specs.KeyPlaces.{profile-keys-are, profile-key-records}
-use Rattle.step_rows.specs.Drawn.{Asked}
-use Rattle.step_search.specs.declared.search.Found.{Found}
+use Rattle.step_rows.specs.Drawn.{KeySizes}
+use Rattle.step_search.specs.declared.search.FinalU.{FinalU}
 use Rattle.step_search.specs.Ranges.{NoneLeft}
 use Rattle.step_search.specs.Finding.{Searchable, Finds, stepsBelow}
 
@@ -34,7 +34,7 @@ module _ (profile question : List ℕ) (soundProfile : profileRefusal profile .n
   unfolding questionIn
   asked = question-accepts (labelsIn profile) question soundQuestion .good
 
-  pub question-asked : Asked (recordBody question)
+  pub question-asked : KeySizes (recordBody question)
   question-asked =
       let q = question-accepts (labelsIn profile) question soundQuestion in
       let k : Key = keyIn (recordBody question) in
@@ -52,7 +52,7 @@ module _ (profile question : List ℕ) (soundProfile : profileRefusal profile .n
   searchable = record { asked = question-asked; records = profile-key-records profile }
 
   -- and what its answer says of the profile's keys and the question
-  module _ {r : Found} (f : Finds (recordsFrom (firstEntry profile + length (labelsIn profile)) profile) (length (keysIn profile)) (recordBody question) r) where
+  module _ {r : FinalU} (f : Finds (recordsFrom (firstEntry profile + length (labelsIn profile)) profile) (length (keysIn profile)) (recordBody question) r) where
     pub found-chain : Chain (keysIn profile) (questionIn question) (r .u) (stepsBelow (r .steps) (r .count))
     unfolding questionIn
     found-chain =

@@ -9,11 +9,11 @@ use lib.ListN.{length, getD, set, length-set}
 use lib.Seq.{getD-set-same, getD-set-other}
 use Rattle.meaning.specs.Records.{keyIn}
 use Rattle.meaning.specs.Pattern.{qOf, tOf}
-use Rattle.theory_derive.specs.Spots.{Taken as Step, Chain, begun, taken}
+use Rattle.theory_pattern.specs.Spots.{Taken as Step, Chain, begun, taken}
 use Rattle.theory_records.specs.KeyPlaces.{keysFrom, KeyRecords}
-use Rattle.step_rows.specs.Drawn.{Asked, Drawn}
+use Rattle.step_rows.specs.Drawn.{KeySizes, Drawn}
 use Rattle.step_search.specs.declared.firing.Taken.{Taken}
-use Rattle.step_search.specs.declared.search.Found.{Found}
+use Rattle.step_search.specs.declared.search.FinalU.{FinalU}
 use Rattle.step_search.specs.Ranges.{stepOf, OfKeys, HitKeys, NoneLeft}
 
 -- the first so many steps, the latest first
@@ -23,11 +23,11 @@ stepsBelow steps (suc n) = stepOf (getD steps n (record { key = 0; node = 0; bra
 
 -- The question's key body is one within the limits, and the profile's keys stand from the part's first record on
 pub record Searchable (part : List ℕ) (keys : ℕ) (body : List ℕ) : Type 0 where
-  pub asked : Asked body
+  pub asked : KeySizes body
   pub records : KeyRecords keys part
 
 -- The steps lead down to u, and u is t or no key lets a spot below it step to it or above
-pub record Finds (part : List ℕ) (keys : ℕ) (body : List ℕ) (r : Found) : Type 0 where
+pub record Finds (part : List ℕ) (keys : ℕ) (body : List ℕ) (r : FinalU) : Type 0 where
   pub chain : Chain (keysFrom keys part) (keyIn body) (r .u) (stepsBelow (r .steps) (r .count))
   pub final : (r .u ≡ tOf (keyIn body)) ⊎ NoneLeft part keys body (r .u)
   pub few : r .count ≤ 8
@@ -38,7 +38,7 @@ module _ {part other : List ℕ} (e : part ≡ other) {keys : ℕ} {body : List 
   pub search-part : Searchable other keys body → Searchable part keys body
   search-part o = subst (λ (l : List ℕ). Searchable l keys body) (sym e) o
 
-  pub found-part : {r : Found} → Finds part keys body r → Finds other keys body r
+  pub found-part : {r : FinalU} → Finds part keys body r → Finds other keys body r
   found-part {r} f = subst (λ (l : List ℕ). Finds l keys body r) e f
 
 -- after so many turns
@@ -77,7 +77,7 @@ module _ {part : List ℕ} {keys : ℕ} {body : List ℕ} (o : Searchable part k
 
   module _ {t u count : ℕ} {steps : List Taken} (k : Taking part keys body t u count steps) where
     module _ (h : u < t) where
-      pub taking-keys : {lines : List ℕ} → Drawn (keyIn body) lines → OfKeys part keys body lines u
+      pub taking-keys : {rows : List ℕ} → Drawn (keyIn body) rows → OfKeys part keys body rows u
       taking-keys d =
           record {
             ready = record { isAsked = o .asked .isKey; drawn = d; some = o .asked .some; above = omega (arith, k .bottom) };

@@ -13,10 +13,10 @@ use Rattle.meaning.specs.Paths.{member}
 use Rattle.meaning.specs.Keys.{Key}
 use Rattle.meaning.specs.Records.{readKey, keyIn, isSome}
 use Rattle.meaning.specs.Pattern.{tOf}
-use Rattle.theory_paths.specs.Bools.{of-true, false-of, of-false, and-left, and-right, both}
-use Rattle.theory_derive.specs.Spots.{lineOf, part, lands, firesBy}
-use Rattle.theory_derive.specs.Lines.{line-length}
-use Rattle.step_rows.specs.Drawn.{Drawn, HasLine, lineIn, drawn-has, drawn-is}
+use Rattle.theory_lists.specs.Bools.{of-true, false-of, of-false, and-left, and-right, both}
+use Rattle.theory_pattern.specs.Spots.{rowOf, part, lands, firesBy}
+use Rattle.theory_pattern.specs.Rows.{row-length}
+use Rattle.step_rows.specs.Drawn.{Drawn, HasRow, rowIn, drawn-has, drawn-is}
 use Rattle.step_landings.specs.Landing.{KeyOnSpot, part-is}
 use Rattle.step_search.specs.declared.firing.Taken.{Taken}
 use Rattle.step_search.specs.declared.firing.Fire.{Fire}
@@ -45,57 +45,57 @@ module _ {H : Taken → Type 0} {N : Type 0} where
   unfolding byCase
   sought-none s e = subst (byCase H N) e (told s)
 
--- the target and the context of a step on a line, its landing apart
+-- the target and the context of a step on a row, its landing apart
 unfoldable pub firesIn : Key → List ℕ → ℕ → ℕ → Bool
-firesIn s line i k = member (s .target) (part i k line) && member (s .context) (take i line)
+firesIn s row i k = member (s .target) (part i k row) && member (s .context) (take i row)
 
 module _ (asked s : Key) (i j k : ℕ) where
-  pub fires-parts : T (firesBy asked s i j k) → T (every (lands asked j k) (s .paths)) × T (firesIn s (lineOf asked j) i k)
+  pub fires-parts : T (firesBy asked s i j k) → T (every (lands asked j k) (s .paths)) × T (firesIn s (rowOf asked j) i k)
   unfolding firesBy firesIn
   fires-parts t =
-      let a : T (member (s .target) (part i k (lineOf asked j))) = search (and-left, and-right) depth 8 in
-      let b : T (member (s .context) (take i (lineOf asked j))) = search (and-left, and-right) depth 8 in
-      (search (and-left, and-right) depth 8, both (member (s .target) (part i k (lineOf asked j))) _ a b)
+      let a : T (member (s .target) (part i k (rowOf asked j))) = search (and-left, and-right) depth 8 in
+      let b : T (member (s .context) (take i (rowOf asked j))) = search (and-left, and-right) depth 8 in
+      (search (and-left, and-right) depth 8, both (member (s .target) (part i k (rowOf asked j))) _ a b)
 
-  pub parts-fire : j < length (asked .paths) → i ≤ tOf asked → i ≤ k → k ≤ length (lineOf asked j) → T (every (lands asked j k) (s .paths))
-      → T (firesIn s (lineOf asked j) i k) → T (firesBy asked s i j k)
+  pub parts-fire : j < length (asked .paths) → i ≤ tOf asked → i ≤ k → k ≤ length (rowOf asked j) → T (every (lands asked j k) (s .paths))
+      → T (firesIn s (rowOf asked j) i k) → T (firesBy asked s i j k)
   unfolding firesBy firesIn
   parts-fire l h b d e f =
       let x1 = lt→ltb j (length (asked .paths)) l in
       let x2 = le→leb i (tOf asked) h in
       let x3 = le→leb i k b in
-      let x4 = le→leb k (length (lineOf asked j)) d in
-      let x5 = and-left (member (s .target) (part i k (lineOf asked j))) _ f in
-      let x6 = and-right (member (s .target) (part i k (lineOf asked j))) _ f in
+      let x4 = le→leb k (length (rowOf asked j)) d in
+      let x5 = and-left (member (s .target) (part i k (rowOf asked j))) _ f in
+      let x6 = and-right (member (s .target) (part i k (rowOf asked j))) _ f in
       search both depth 8
 
 -- one node and one spot
-pub record OnPart (lines key : List ℕ) (i j k : ℕ) : Type 0 where
-  pub has : HasLine lines j
+pub record OnPart (rows key : List ℕ) (i j k : ℕ) : Type 0 where
+  pub has : HasRow rows j
   pub isKey : isSome (readKey key) ≡ true
   pub above : i ≤ k
-  pub within : k ≤ length (lineIn lines j)
+  pub within : k ≤ length (rowIn rows j)
 
-module _ {lines key : List ℕ} {i j k : ℕ} (o : OnPart lines key i j k) {line : List ℕ} (e : line ≡ lineIn lines j) where
-  pub part-within : k ≤ length line
+module _ {rows key : List ℕ} {i j k : ℕ} (o : OnPart rows key i j k) {row : List ℕ} (e : row ≡ rowIn rows j) where
+  pub part-within : k ≤ length row
   part-within = omega (arith, o .within, ap length e)
 
-  module _ {t : List ℕ} (q : t ≡ keyIn key .target) {r : Bool} (m : r ≡ member t (take (k - i) (drop i line))) where
-    target-is : member (keyIn key .target) (part i k (lineIn lines j)) ≡ r
+  module _ {t : List ℕ} (q : t ≡ keyIn key .target) {r : Bool} (m : r ≡ member t (take (k - i) (drop i row))) where
+    target-is : member (keyIn key .target) (part i k (rowIn rows j)) ≡ r
     target-is =
-        sym (m ∙ ap (λ (p : List ℕ). member p (take (k - i) (drop i line))) q
-        ∙ ap (member (keyIn key .target)) (part-is i k line (o .above) part-within ∙ ap (part i k) e))
+        sym (m ∙ ap (λ (p : List ℕ). member p (take (k - i) (drop i row))) q
+        ∙ ap (member (keyIn key .target)) (part-is i k row (o .above) part-within ∙ ap (part i k) e))
 
-    pub target-not : not r ≡ true → false ≡ firesIn (keyIn key) (lineIn lines j) i k
+    pub target-not : not r ≡ true → false ≡ firesIn (keyIn key) (rowIn rows j) i k
     unfolding firesIn
     target-not n = rw (target-is ∙ not-true _ n)
 
-    pub context-last : not r ≡ false → {c : List ℕ} → c ≡ keyIn key .context → {x : Bool} → x ≡ member c (take i line)
-        → x ≡ firesIn (keyIn key) (lineIn lines j) i k
+    pub context-last : not r ≡ false → {c : List ℕ} → c ≡ keyIn key .context → {x : Bool} → x ≡ member c (take i row)
+        → x ≡ firesIn (keyIn key) (rowIn rows j) i k
     unfolding firesIn
     context-last n d w =
         rw (target-is ∙ not-false _ n)
-        (w ∙ ap (λ (p : List ℕ). member p (take i line)) d ∙ ap (λ (l : List ℕ). member (keyIn key .context) (take i l)) e)
+        (w ∙ ap (λ (p : List ℕ). member p (take i row)) d ∙ ap (λ (l : List ℕ). member (keyIn key .context) (take i l)) e)
 
 -- a step of one key that was found: below u, to u or above
 pub record Hit (asked s : Key) (number u : ℕ) (t : Taken) : Type 0 where
@@ -105,8 +105,8 @@ pub record Hit (asked s : Key) (number u : ℕ) (t : Taken) : Type 0 where
   pub firing : T (firesBy asked s (t .node) (t .branch) (t .spot))
 
 -- one spot
-pub record AtSpot (body lines key : List ℕ) (j k u : ℕ) : Type 0 where
-  pub spot : KeyOnSpot body lines key j k
+pub record AtSpot (body rows key : List ℕ) (j k u : ℕ) : Type 0 where
+  pub spot : KeyOnSpot body rows key j k
   pub above : u < tOf (keyIn body)
   pub below : u < k
 
@@ -119,10 +119,10 @@ pub record Climbing (asked s : Key) (u j k i : ℕ) : Type 0 where
   pub within : i ≤ u + 1
   pub none : (x : ℕ) → x < i → firesBy asked s x j k ≡ false
 
-module _ {body lines key : List ℕ} {j k u : ℕ} (o : AtSpot body lines key j k u) where
+module _ {body rows key : List ℕ} {j k u : ℕ} (o : AtSpot body rows key j k u) where
   -- t is at most 16
   pub spot-small : tOf (keyIn body) ≤ 24
-  spot-small = omega (arith, o .spot .spot .drawn .drawn j (o .spot .spot .branch) .short, line-length (keyIn body) j)
+  spot-small = omega (arith, o .spot .spot .drawn .drawn j (o .spot .spot .branch) .short, row-length (keyIn body) j)
 
   module _ {r : Bool} (e : r ≡ every (lands (keyIn body) j k) (keyIn key .paths)) where
     pub lands-none : not r ≡ true → NoneAt (keyIn body) (keyIn key) u j k
@@ -132,12 +132,12 @@ module _ {body lines key : List ℕ} {j k u : ℕ} (o : AtSpot body lines key j 
     climbing-start n =
         record { landing = of-true _ (sym e ∙ not-false _ n); within = omega arith; none = λ x a. absurd (omega arith) }
 
-  is : lineIn lines j ≡ lineOf (keyIn body) j
+  is : rowIn rows j ≡ rowOf (keyIn body) j
   is = drawn-is (o .spot .spot .drawn) (o .spot .spot .branch) refl
 
   module _ {i : ℕ} (c : Climbing (keyIn body) (keyIn key) u j k i) where
     module _ (h : i ≤ u) where
-      pub climbing-part : OnPart lines key i j k
+      pub climbing-part : OnPart rows key i j k
       climbing-part =
           record {
             has = drawn-has (o .spot .spot .drawn) (o .spot .spot .branch);
@@ -146,8 +146,8 @@ module _ {body lines key : List ℕ} {j k u : ℕ} (o : AtSpot body lines key j 
             within = omega (arith, o .spot .spot .within, ap length is);
           }
 
-      module _ {r : Bool} (e : r ≡ firesIn (keyIn key) (lineIn lines j) i k) where
-        tested : firesIn (keyIn key) (lineOf (keyIn body) j) i k ≡ r
+      module _ {r : Bool} (e : r ≡ firesIn (keyIn key) (rowIn rows j) i k) where
+        tested : firesIn (keyIn key) (rowOf (keyIn body) j) i k ≡ r
         tested = sym (e ∙ ap (λ (l : List ℕ). firesIn (keyIn key) l i k) is)
 
         pub climbing-hit : r ≡ true → {number : ℕ}
@@ -176,30 +176,30 @@ module _ {body lines key : List ℕ} {j k u : ℕ} (o : AtSpot body lines key j 
     climbing-done h = record { none = λ x a. c .none x (omega arith) }
 
 -- a branch, from one spot on
-pub record OnBranch (body lines key : List ℕ) (j from u : ℕ) : Type 0 where
+pub record OnBranch (body rows key : List ℕ) (j from u : ℕ) : Type 0 where
   pub isAsked : isSome (readKey body) ≡ true
-  pub drawn : Drawn (keyIn body) lines
+  pub drawn : Drawn (keyIn body) rows
   pub isKey : isSome (readKey key) ≡ true
   pub branch : j < length (keyIn body .paths)
   pub above : u < tOf (keyIn body)
   pub after : u < from
 
 pub record NoneOn (asked s : Key) (u j from : ℕ) : Type 0 where
-  pub none : (k : ℕ) → from ≤ k → k ≤ length (lineOf asked j) → NoneAt asked s u j k
+  pub none : (k : ℕ) → from ≤ k → k ≤ length (rowOf asked j) → NoneAt asked s u j k
 
 -- the spots before k are passed
 pub record Trying (asked s : Key) (u j from end k : ℕ) : Type 0 where
-  pub size : end ≡ length (lineOf asked j)
+  pub size : end ≡ length (rowOf asked j)
   pub short : end ≤ 24
   pub begun : from ≤ k
   pub none : (x : ℕ) → from ≤ x → x < k → NoneAt asked s u j x
 
-module _ {body lines key : List ℕ} {j from u : ℕ} (o : OnBranch body lines key j from u) where
-  pub branch-has : HasLine lines j
+module _ {body rows key : List ℕ} {j from u : ℕ} (o : OnBranch body rows key j from u) where
+  pub branch-has : HasRow rows j
   branch-has = drawn-has (o .drawn) (o .branch)
 
-  pub trying-start : {line : List ℕ} → line ≡ lineIn lines j → Trying (keyIn body) (keyIn key) u j from (length line) from
-  trying-start {line} e =
+  pub trying-start : {row : List ℕ} → row ≡ rowIn rows j → Trying (keyIn body) (keyIn key) u j from (length row) from
+  trying-start {row} e =
       let is = drawn-is (o .drawn) (o .branch) e in
       record {
         size = ap length is;
@@ -210,7 +210,7 @@ module _ {body lines key : List ℕ} {j from u : ℕ} (o : OnBranch body lines k
 
   module _ {end k : ℕ} (t : Trying (keyIn body) (keyIn key) u j from end k) where
     module _ (h : k ≤ end) where
-      pub trying-spot : AtSpot body lines key j k u
+      pub trying-spot : AtSpot body rows key j k u
       trying-spot =
           record {
             spot = record { spot = record { isKey = o .isAsked; drawn = o .drawn; branch = o .branch; within = omega (arith, t .size) }; isKey = o .isKey };

@@ -14,10 +14,10 @@ use Rattle.meaning.specs.Records.{recordLength, recordBody, readKey, keyIn, isS
 use Rattle.meaning.specs.Operations.{recordsFrom}
 use Rattle.meaning.specs.Pattern.{tOf}
 use Rattle.theory_records.specs.Bodies.{records-next}
-use Rattle.theory_derive.specs.Logic.{less-or}
-use Rattle.theory_derive.specs.Spots.{Taken as Step, lineOf, firesBy, firesFound, fires, Fires}
+use Rattle.theory_lists.specs.Logic.{less-or}
+use Rattle.theory_pattern.specs.Spots.{Taken as Step, rowOf, firesBy, firesFound, fires, Fires}
 use Rattle.theory_derive.specs.Firing.{fires-says}
-use Rattle.theory_derive.specs.Lines.{line-length}
+use Rattle.theory_pattern.specs.Rows.{row-length}
 use Rattle.theory_derive.specs.Ranges.{InRange}
 use Rattle.theory_records.specs.KeyPlaces.{keysFrom, KeyRecord, key-shape, KeyRecords, keys-length, key-at}
 use Rattle.step_rows.specs.Drawn.{Drawn}
@@ -25,22 +25,22 @@ use Rattle.step_search.specs.declared.firing.Taken.{Taken}
 use Rattle.step_search.specs.Firing.{OnBranch, Hit, NoneAt, NoneOn}
 
 -- below u, where u is no t yet
-pub record Ready (body lines : List ℕ) (u : ℕ) : Type 0 where
+pub record BelowT (body rows : List ℕ) (u : ℕ) : Type 0 where
   pub isAsked : isSome (readKey body) ≡ true
-  pub drawn : Drawn (keyIn body) lines
+  pub drawn : Drawn (keyIn body) rows
   pub some : 1 ≤ length (keyIn body .paths)
   pub above : u < tOf (keyIn body)
 
-pub record OfKey (body lines key : List ℕ) (u : ℕ) : Type 0 where
-  pub ready : Ready body lines u
+pub record OfKey (body rows key : List ℕ) (u : ℕ) : Type 0 where
+  pub ready : BelowT body rows u
   pub isKey : isSome (readKey key) ≡ true
 
 -- t is at most 16 and so u is small
-pub ready-small : {body lines : List ℕ} {u : ℕ} → Ready body lines u → tOf (keyIn body) ≤ 24
-ready-small {body} r = omega (arith, r .drawn .drawn 0 (r .some) .short, line-length (keyIn body) 0)
+pub ready-small : {body rows : List ℕ} {u : ℕ} → BelowT body rows u → tOf (keyIn body) ≤ 24
+ready-small {body} r = omega (arith, r .drawn .drawn 0 (r .some) .short, row-length (keyIn body) 0)
 
 pub record NoneBranch (asked s : Key) (u j : ℕ) : Type 0 where
-  pub none : (k : ℕ) → u < k → (k ≤ tOf asked → j ≡ 0) → k ≤ length (lineOf asked j) → NoneAt asked s u j k
+  pub none : (k : ℕ) → u < k → (k ≤ tOf asked → j ≡ 0) → k ≤ length (rowOf asked j) → NoneAt asked s u j k
 
 pub record NoneOf (asked s : Key) (u : ℕ) : Type 0 where
   pub none : (j : ℕ) → j < length (asked .paths) → NoneBranch asked s u j
@@ -65,8 +65,8 @@ sweeping-start asked s u c d =
       none = λ x a. absurd (omega arith);
     }
 
-module _ {body lines key : List ℕ} {u : ℕ} (o : OfKey body lines key u) {below n j from : ℕ} (s : Sweeping (keyIn body) (keyIn key) u below n j from) where
-  pub sweeping-branch : j < n → OnBranch body lines key j from u
+module _ {body rows key : List ℕ} {u : ℕ} (o : OfKey body rows key u) {below n j from : ℕ} (s : Sweeping (keyIn body) (keyIn key) u below n j from) where
+  pub sweeping-branch : j < n → OnBranch body rows key j from u
   sweeping-branch h =
       record {
         isAsked = o .ready .isAsked;
@@ -100,8 +100,8 @@ unfoldable pub stepOf : Taken → Step
 stepOf t = record { key = t .key; node = t .node; branch = t .branch; spot = t .spot }
 
 -- the profile from its first key on, so many keys
-pub record OfKeys (part : List ℕ) (keys : ℕ) (body lines : List ℕ) (u : ℕ) : Type 0 where
-  pub ready : Ready body lines u
+pub record OfKeys (part : List ℕ) (keys : ℕ) (body rows : List ℕ) (u : ℕ) : Type 0 where
+  pub ready : BelowT body rows u
   pub records : KeyRecords keys part
 
 pub record HitKeys (part : List ℕ) (keys : ℕ) (body : List ℕ) (u : ℕ) (t : Taken) : Type 0 where
@@ -127,7 +127,7 @@ pub walking-start : (part : List ℕ) (keys : ℕ) (body : List ℕ) (u : ℕ) �
 unfolding recordsFrom
 walking-start part keys body u = record { here = refl; within = omega arith; none = λ x a. absurd (omega arith) }
 
-module _ {part : List ℕ} {keys : ℕ} {body lines : List ℕ} {u : ℕ} (o : OfKeys part keys body lines u) {number : ℕ} {rest : List ℕ}
+module _ {part : List ℕ} {keys : ℕ} {body rows : List ℕ} {u : ℕ} (o : OfKeys part keys body rows u) {number : ℕ} {rest : List ℕ}
     (w : Walking part keys body u number rest) where
   module _ (h : number < keys) {end : ℕ} (e : end ≡ recordLength rest) where
     stands : KeyRecord rest
@@ -143,7 +143,7 @@ module _ {part : List ℕ} {keys : ℕ} {body lines : List ℕ} {u : ℕ} (o : O
     key-is : keyIn (take (end - 4) (drop 4 rest)) ≡ keyIn (recordBody (recordsFrom number part))
     key-is = ap keyIn (body-is ∙ ap recordBody (w .here))
 
-    pub walking-key : OfKey body lines (take (end - 4) (drop 4 rest)) u
+    pub walking-key : OfKey body rows (take (end - 4) (drop 4 rest)) u
     walking-key = record { ready = o .ready; isKey = ap (λ (l : List ℕ). isSome (readKey l)) body-is ∙ key-shape stands }
 
     pub walking-hit : {t : Taken} → Hit (keyIn body) (keyIn (take (end - 4) (drop 4 rest))) number u t → HitKeys part keys body u t
@@ -175,5 +175,5 @@ module _ {part : List ℕ} {keys : ℕ} {body lines : List ℕ} {u : ℕ} (o : O
             λ t r.
             let k : t .key < keys = omega (arith, r .key, keys-length keys part) in
             fires-key part keys (keyIn body) t k
-            ∙ w .none (t .key) (omega arith) .none (t .branch) (r .branch) .none (t .spot) (r .below) (r .first) (r .onLine) .none (t .node) (r .node);
+            ∙ w .none (t .key) (omega arith) .none (t .branch) (r .branch) .none (t .spot) (r .below) (r .first) (r .onRow) .none (t .node) (r .node);
       }

@@ -16,7 +16,7 @@ ghost use Rattle.step_search.specs.Finding.{Searchable, Finds};
 pub const MOST_STEPS: usize = 8;
 
 // The final u, and the remembered steps in the order taken: the first `count` of them.
-pub struct Found {
+pub struct FinalU {
     pub u: usize,
     pub count: usize,
     pub steps: [Taken; MOST_STEPS],
@@ -33,12 +33,12 @@ fn least(a: usize, b: usize) -> usize
 }
 
 // The u of the question whose key body is given, and the steps that lead to it.
-pub fn find_steps(profile: &[u8], labels: usize, keys: usize, asked: &[u8]) -> Found
+pub fn find_steps(profile: &[u8], labels: usize, keys: usize, asked: &[u8]) -> FinalU
     requires { ⌜ Searchable (recordsFrom labels (now profile)) keys (now asked) ⌝ }
     ensures { λ r. ⌜ Finds (recordsFrom labels (now (profile .entry))) keys (now (asked .entry)) r ⌝ }
 {
     let part = record_at(profile, labels);
-    let lines = draw(asked);
+    let rows = draw(asked);
     let t = chain_end(asked);
     let q = context(asked);
     let mut u = q.len();
@@ -51,13 +51,13 @@ pub fn find_steps(profile: &[u8], labels: usize, keys: usize, asked: &[u8]) -> F
     };
     let mut steps = [none; MOST_STEPS];
     while u < t {
-        let found = fire_in(part, keys, asked, &lines, u);
+        let found = fire_in(part, keys, asked, &rows, u);
         let Fire::At(taken) = found else {
-            return Found { u, count, steps };
+            return FinalU { u, count, steps };
         };
         steps[count] = taken;
         count += 1;
         u = least(taken.spot, t);
     }
-    Found { u, count, steps }
+    FinalU { u, count, steps }
 }

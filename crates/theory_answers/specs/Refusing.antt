@@ -29,7 +29,7 @@ first-sound (r ∷ rs) e = go (eqb (r .number) 0) refl e (first-sound rs)
     go true t e more = more e
     go false t e more = absurd (borrow.Author.Tests.eqb-false (r .number) 0 t e)
 
-choose-refused : (n : ℕ) (Q R : Type 0) → (n ≡ 0 → ⊥) → R → choose n Q R
+pub choose-refused : (n : ℕ) (Q R : Type 0) → (n ≡ 0 → ⊥) → R → choose n Q R
 unfolding choose
 choose-refused zero Q R h r = absurd (h refl)
 choose-refused (suc n) Q R h r = r
@@ -45,6 +45,16 @@ unless-refused rs buffer Q r e named =
     refuses z =
         let i : r .input ≡ 0 = ap (λ (x : Refusal). x .input) (sym e ∙ first-sound rs z) in
         omega arith
+
+-- .. and where none stands it is what Q says
+pub unless-says : (rs : List Refusal) (buffer : List ℕ) (Q : Answer → Type 0) (answer : Answer) → firstRefusal rs .number ≡ 0 → Unless rs buffer Q answer
+    → Q answer
+unfolding Unless choose
+unless-says rs buffer Q answer e = go (firstRefusal rs .number) e
+  where
+    go : (n : ℕ) → n ≡ 0 → choose n (Q answer) (answer ≡ refusedBy (firstRefusal rs) buffer) → Q answer
+    go zero z q = q
+    go (suc n) z q = absurd (omega arith)
 
 pub sound-more : (r : Refusal) (rs : List Refusal) → r .number ≡ 0 → firstRefusal rs .number ≡ 0 → firstRefusal (r ∷ rs) .number ≡ 0
 unfolding firstRefusal

@@ -9,7 +9,7 @@ use mathlib.Core.Option.{Option·some-injective}
 use native.Mathlib.Omega.{arith}
 use native.Mathlib.Decide.{decLt}
 use lib.ListN.{length, getElem?}
-use Rattle.theory_paths.specs.Bools.{Each-nth, Each-below}
+use Rattle.theory_lists.specs.Bools.{Each-nth, Each-below}
 use Rattle.meaning.specs.Keys.{Key, Keeps}
 use Rattle.theory_trees.specs.Witness.{shows-breaks, first-unique}
 use Rattle.meaning.specs.Rules.{Line, FollowsAt, FollowsBelow}

@@ -16,7 +16,7 @@ use Rattle.theory_counter.specs.Crossing.{Marks}
 use Rattle.theory_counter.specs.Copies.{copies-equal}
 
 -- The asked key in its pattern: q in the trunk, t below it, and each key path leads to a mark
-pub record Asked (p : Table) (mark : ℕ → Bool) (u : ℕ) (k : Key) : Type 0 where
+pub record InPattern (p : Table) (mark : ℕ → Bool) (u : ℕ) (k : Key) : Type 0 where
   pub q : ℕ
   pub t : ℕ
   pub inTrunk : q ≤ u
@@ -54,7 +54,7 @@ module _ {κ : ℕ → Class} {p : Table} {mark : ℕ → Bool} {u : ℕ} {w : T
   all-pairs t b h end = end
   all-pairs t b h (also m ms) = also (marked-pair t b h m) (all-pairs t b h ms)
 
-  pub asked-breaks : (k : Key) → Asked p mark u k → Breaks κ w k
+  pub asked-breaks : (k : Key) → InPattern p mark u k → Breaks κ w k
   asked-breaks k a =
       let q = a .q in
       let t = a .t in

@@ -10,7 +10,7 @@ use lib.Dec.{T, eqb, eqb→eq, eqb-refl}
 use Rattle.meaning.specs.Lists.{keep, numbers}
 use Rattle.meaning.specs.Paths.{Class, isElement, isAttribute}
 use Rattle.meaning.specs.Trees.{Table, attributes, others, Equal, EqualLists}
-use Rattle.theory_paths.specs.Bools.{and-left, and-right, both, bool-eq, false-of, true-of}
+use Rattle.theory_lists.specs.Bools.{and-left, and-right, both, bool-eq, false-of, true-of}
 use Rattle.theory_trees.specs.Laws.{equal-leaves, equal-elements}
 use Rattle.theory_counter.specs.Doubled.{Drawn, Stands, Spot, Written}
 use Rattle.theory_counter.specs.Climb.{own}

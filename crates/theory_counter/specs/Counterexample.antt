@@ -15,7 +15,7 @@ use Rattle.meaning.specs.Refusals.{isSymbol}
 use Rattle.meaning.specs.Trees.{IsTree, Once, tableOf}
 use Rattle.meaning.specs.Keys.{Key, Breaks, Keeps, Implied}
 use Rattle.meaning.specs.Pattern.{tOf, pattern, marked, IsU, writtenNodes}
-use Rattle.theory_paths.specs.Bools.{every-each, Each-of}
+use Rattle.theory_lists.specs.Bools.{every-each, Each-of}
 use Rattle.theory_paths.specs.Good.{
   GoodLabels,
   GoodKey,
@@ -34,7 +34,7 @@ use Rattle.theory_counter.specs.PatternLaws.{trunk-inside}
 use Rattle.theory_counter.specs.PatternTree.{pattern-drawn, pattern-asked}
 use Rattle.theory_counter.specs.Leading.{crosses-never, hangs-never}
 use Rattle.theory_counter.specs.Singles.{written-once}
-use Rattle.theory_derive.specs.PatternOnce.{pattern-once}
+use Rattle.theory_pattern.specs.PatternOnce.{pattern-once}
 use Rattle.theory_counter.specs.WrittenTable.{written-doubled}
 
 -- 202 is a symbol of no accepted path

@@ -67,7 +67,7 @@ module _ {A : Type 0} (g : ℕ → List A) (place : ℕ → ℕ) where
           let i : m ≡ length (g start) + (m - length (g start)) = omega arith in
           ap (λ (y : ℕ). getD (g start ++ rest) y d) i ∙ getD-append-add (g start) rest (m - length (g start)) d ∙ ih (omega arith) (omega arith)
 
-  pub record Found (count start m : ℕ) : Type 0 where
+  pub record FlatPlace (count start m : ℕ) : Type 0 where
     pub node : ℕ
     pub index : ℕ
     pub notBefore : start ≤ node
@@ -75,7 +75,7 @@ module _ {A : Type 0} (g : ℕ → List A) (place : ℕ → ℕ) where
     pub inside : index < length (g node)
     pub here : place start + m ≡ place node + index
 
-  pub flat-find : (count start m : ℕ) → Counts count start → m < length (flatten (map g (numbers count start))) → Found count start m
+  pub flat-find : (count start m : ℕ) → Counts count start → m < length (flatten (map g (numbers count start))) → FlatPlace count start m
   unfolding numbers flatten Counts
   flat-find zero start m c h = absurd (omega arith)
   flat-find (suc count) start m c h =
@@ -84,7 +84,7 @@ module _ {A : Type 0} (g : ℕ → List A) (place : ℕ → ℕ) where
       rest : List A
       rest = flatten (map g (numbers count (suc start)))
 
-      go : Dec (m < length (g start)) → (m - length (g start) < length rest → Found count (suc start) (m - length (g start))) → Found (suc count) start m
+      go : Dec (m < length (g start)) → (m - length (g start) < length rest → FlatPlace count (suc start) (m - length (g start))) → FlatPlace (suc count) start m
       go (yes q) ih = record { node = start; index = m; notBefore = omega arith; notBehind = omega arith; inside = q; here = refl }
       go (no q) ih =
           let l = length-append (g start) rest in

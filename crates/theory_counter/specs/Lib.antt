@@ -11,9 +11,6 @@ pub mod Ranges
 pub mod Copies
 pub mod Breaking
 -- The pattern as a list of nodes: runs, branches, labels, marks; no step leads up into the trunk
-pub mod Numbered
-pub mod Lines
-pub mod Drawing
 pub mod PatternLaws
 pub mod PatternTree
 pub mod Singles

@@ -16,14 +16,14 @@ use Rattle.meaning.specs.Refusals.{isSymbol}
 use Rattle.meaning.specs.Trees.{Node, noNode, tableOf, Child}
 use Rattle.meaning.specs.Keys.{Key}
 use Rattle.meaning.specs.Pattern.{drawn, run, branches, tOf, patternNodes, pattern, ends, marked}
-use Rattle.theory_paths.specs.Bools.{or-cases, or-left, or-right, every-append}
+use Rattle.theory_lists.specs.Bools.{or-cases, or-left, or-right, every-append}
 use Rattle.theory_paths.specs.Valid.{valid-before}
 use Rattle.theory_paths.specs.Good.{GoodLabels, GoodKey, class-root, context-symbols, target-symbols, key-path-symbols, valid-chain, valid-whole, valid-key-path}
 use Rattle.theory_counter.specs.Crossing.{Marks}
-use Rattle.theory_counter.specs.Numbered.{Numbered, next, Is, numbered-append, numbered-left, numbered-right, numbered-at, numbered-map, numbered-whole}
-use Rattle.theory_counter.specs.Lines.{total, last, branches-length, last-chain, last-end, run-down, Hangs, chain-hangs, branches-hang, longs, Bare, ends-after, ends-bare}
-use Rattle.theory_counter.specs.Drawing.{drawn-member, Known, run-known, branches-known, Inside, IsElementAt, run-inside, last-element, branches-inside}
-use Rattle.theory_derive.specs.Numbers.{run-length}
+use Rattle.theory_pattern.specs.Numbered.{Numbered, next, Is, numbered-append, numbered-left, numbered-right, numbered-at, numbered-map, numbered-whole}
+use Rattle.theory_pattern.specs.Branches.{total, last, branches-length, last-chain, last-end, run-down, Hangs, chain-hangs, branches-hang, longs, Bare, ends-after, ends-bare}
+use Rattle.theory_pattern.specs.Drawing.{drawn-member, Known, run-known, branches-known, Inside, IsElementAt, run-inside, last-element, branches-inside}
+use Rattle.theory_pattern.specs.Numbers.{run-length}
 
 -- The nodes behind the root
 module _ (asked : Key) where

@@ -14,10 +14,10 @@ use Rattle.meaning.specs.Pattern.{drawn, run, qOf, tOf, patternNodes, pattern, 
 use Rattle.theory_paths.specs.Good.{GoodLabels, GoodKey, class-filler-attribute}
 use Rattle.theory_counter.specs.Doubled.{Drawn}
 use Rattle.theory_counter.specs.Crossing.{Marks}
-use Rattle.theory_counter.specs.Breaking.{Asked}
-use Rattle.theory_counter.specs.Numbered.{Numbered, Is, numbered-left, numbered-right}
-use Rattle.theory_counter.specs.Lines.{last, run-append, last-chain, run-down}
-use Rattle.theory_counter.specs.Drawing.{drawn-member, Inside}
+use Rattle.theory_counter.specs.Breaking.{InPattern}
+use Rattle.theory_pattern.specs.Numbered.{Numbered, Is, numbered-left, numbered-right}
+use Rattle.theory_pattern.specs.Branches.{last, run-append, last-chain, run-down}
+use Rattle.theory_pattern.specs.Drawing.{drawn-member, Inside}
 use Rattle.theory_counter.specs.PatternLaws.{
   chain,
   twigs,
@@ -31,7 +31,7 @@ use Rattle.theory_counter.specs.PatternLaws.{
   end-marked,
   marks-closed,
 }
-use Rattle.theory_derive.specs.Numbers.{run-length}
+use Rattle.theory_pattern.specs.Numbers.{run-length}
 
 module _ (labels : List Label) (good : GoodLabels labels) (limits : KeyLimits) (asked : Key) (g : GoodKey labels limits asked) (u : ℕ) (h : u < tOf asked) where
   no-filler : (x : ℕ) → x < length (patternNodes asked) → getD (patternNodes asked) x noNode .label ≢ fillerAttribute
@@ -106,7 +106,7 @@ module _ (asked : Key) where
       branches-marks (patternNodes asked) (marked asked) (tOf asked) (suc (tOf asked)) (asked .paths) (twigs-here asked) (omega arith)
       (omega arith) (end-marked asked)
 
-  pub pattern-asked : (u : ℕ) → qOf asked ≤ u → u < tOf asked → Asked (pattern asked) (marked asked) u asked
+  pub pattern-asked : (u : ℕ) → qOf asked ≤ u → u < tOf asked → InPattern (pattern asked) (marked asked) u asked
   pattern-asked u a b =
       record {
         q = qOf asked;

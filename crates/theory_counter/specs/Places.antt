@@ -7,7 +7,7 @@ use native.Mathlib.Decide.{decLt}
 use lib.Dec.{T, ltb, ltb→lt, lt→ltb}
 use Rattle.meaning.specs.Paths.{Class, isElement}
 use Rattle.meaning.specs.Trees.{Table}
-use Rattle.theory_paths.specs.Bools.{true-of, false-of}
+use Rattle.theory_lists.specs.Bools.{true-of, false-of}
 use Rattle.theory_counter.specs.Doubled.{Stands}
 
 unfoldable pub bit : Bool → ℕ

@@ -8,7 +8,7 @@ use lib.Dec.{T}
 use Rattle.meaning.specs.Lists.{keep, numbers}
 use Rattle.meaning.specs.Paths.{Class}
 use Rattle.meaning.specs.Trees.{Table, Equal, EqualLists, ended, paired}
-use Rattle.theory_paths.specs.Lists.{numbers-append}
+use Rattle.theory_lists.specs.Lists.{numbers-append}
 
 pub keep-append : {A : Type 0} (f : A → Bool) (xs ys : List A) → keep f (xs ++ ys) ≡ keep f xs ++ keep f ys
 unfolding keep

@@ -12,7 +12,7 @@ use Rattle.meaning.specs.Keys.{Key}
 use Rattle.meaning.specs.Pattern.{qOf, tOf, patternNodes, pattern, placeOf, writtenNodes}
 use Rattle.theory_paths.specs.Good.{GoodKey, context-length, target-length, key-path-length, paths-within}
 use Rattle.theory_counter.specs.Places.{bit, Placing}
-use Rattle.theory_counter.specs.Lines.{total}
+use Rattle.theory_pattern.specs.Branches.{total}
 use Rattle.theory_counter.specs.PatternLaws.{pattern-length}
 use Rattle.theory_counter.specs.WrittenLaws.{placing, written-length}
 

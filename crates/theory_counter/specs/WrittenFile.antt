@@ -16,7 +16,7 @@ use Rattle.meaning.specs.Refusals.{sound, goodRoot, treeRefusal, nodesIn}
 use Rattle.meaning.specs.Trees.{noNode, tableOf, Once}
 use Rattle.meaning.specs.Keys.{Key}
 use Rattle.meaning.specs.Pattern.{qOf, tOf, writtenNodes, writtenTree}
-use Rattle.theory_paths.specs.Bools.{true-of, or-right}
+use Rattle.theory_lists.specs.Bools.{true-of, or-right}
 use Rattle.theory_paths.specs.Good.{GoodLabels, GoodKey, class-root}
 use Rattle.theory_records.specs.TreeFiles.{NodeBelow, NodesGood, NodesOnce}
 use Rattle.meaning.specs.Records.{valueBytes}

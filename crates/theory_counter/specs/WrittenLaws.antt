@@ -17,7 +17,7 @@ use Rattle.theory_counter.specs.Places.{bit, shift, numberOf, shift-trun
 use Rattle.theory_counter.specs.Doubling.{number-trunk, number-first, number-second}
 use Rattle.theory_counter.specs.Flattened.{map-numbers-at}
 use Rattle.theory_counter.specs.Dressing.{dressed-all, dressed-placing}
-use Rattle.theory_paths.specs.Lists.{numbers-length}
+use Rattle.theory_lists.specs.Lists.{numbers-length}
 
 -- the length of one copy
 unfoldable pub gapOf : (ℕ → Class) → Key → ℕ → ℕ

@@ -24,7 +24,7 @@ use Rattle.meaning.specs.Pattern.{
   writtenNode,
   writtenNodes,
 }
-use Rattle.theory_paths.specs.Bools.{true-of, false-of}
+use Rattle.theory_lists.specs.Bools.{true-of, false-of}
 use Rattle.theory_counter.specs.Doubled.{Drawn, Stands, Spot, Written}
 use Rattle.theory_counter.specs.Places.{bit, shift, numberOf, shift-below, Placing, place-above, place-trunk, place-below, place-within}
 use Rattle.theory_counter.specs.Doubling.{

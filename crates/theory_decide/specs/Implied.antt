@@ -19,8 +19,8 @@ use Rattle.theory_records.specs.Questions.{question-accepts}
 use Rattle.theory_records.specs.WrittenInputs.{LineFits, proof-walked-written}
 use Rattle.theory_answers.specs.Refusing.{unless-sound, sound-more, sound-end, fits-size}
 use Rattle.theory_rules.specs.Accepted.{accepted-implied}
-use Rattle.theory_derive.specs.Spots.{Taken, Ends, Chain}
-use Rattle.theory_derive.specs.Singles.{single-clear}
+use Rattle.theory_pattern.specs.Spots.{Taken, Ends, Chain}
+use Rattle.theory_pattern.specs.Singles.{single-clear}
 use Rattle.theory_derive.specs.Written.{proofLines}
 use Rattle.theory_derive.specs.Runs.{FineLine}
 use Rattle.theory_derive.specs.Accept.{proof-accepted, proof-fine, proof-few}

@@ -1,16 +1,16 @@
 -- One law for each `return` of the operation that decides a question.
 use Prim.Native.Nat.{ℕ, _≤_, _<_}
-use mathlib.Core.Path.{_≡_, _∙_}
+use mathlib.Core.Path.{_≡_}
 use mathlib.Core.Logic.{inl, inr}
 use mathlib.Core.List.{List, [], _∷_}
 use lib.ListN.{length}
 use Rattle.meaning.specs.Paths.{classOf}
 use Rattle.meaning.specs.Refusals
-use Rattle.meaning.specs.Refusals.{Refusal, sound, profileRefusal, questionRefusal, questionIn, answerRefusal}
+use Rattle.meaning.specs.Refusals.{sound, profileRefusal, questionRefusal, questionIn, answerRefusal}
 use Rattle.meaning.specs.Pattern.{IsU, tOf, writtenTree}
 use Rattle.meaning.specs.Operations.{Decides, refusedBy, filled, implied, notImplied, singleIn, labelsIn, keysIn}
-use Rattle.theory_answers.specs.Refusing.{unless-small, unless-sound, unless-refused, sound-more, sound-end, first-passes, answer-large, profile-settled, question-settled, first-named, sound-number}
-use Rattle.theory_derive.specs.Spots.{Taken, Ends, Chain}
+use Rattle.theory_answers.specs.Refusing.{unless-small, unless-sound, sound-more, sound-end, answer-large, sound-number}
+use Rattle.theory_pattern.specs.Spots.{Taken, Ends, Chain}
 use Rattle.theory_decide.specs.Implied.{proofBytesOf, implied-written}
 use Rattle.theory_decide.specs.NotImplied.{not-implied-written}
 

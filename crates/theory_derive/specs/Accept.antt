@@ -16,16 +16,17 @@ use Rattle.meaning.specs.Keys.{Key}
 use Rattle.meaning.specs.Rules.{Line, Epsilon, rule1, rule7, FollowsIn, shared, rule10, lineKeys, EndsWith, Accepted, ContextTarget}
 use Rattle.meaning.specs.Records.{noKey}
 use Rattle.meaning.specs.Pattern.{qOf, tOf}
-use Rattle.theory_paths.specs.Bools.{Each-at}
+use Rattle.theory_lists.specs.Bools.{Each-at}
 use Rattle.theory_paths.specs.Normal.{norm-of-normal}
 use Rattle.theory_paths.specs.Good.{GoodKey, context-normal, target-length, paths-within}
-use Rattle.theory_derive.specs.Logic.{found-mem, found-later, found-before}
-use Rattle.theory_derive.specs.Parts.{take-part, part-drop, join-norms, join-norm}
-use Rattle.theory_derive.specs.Spots.{Taken, Ends, atT, aboveSingle, Fires, FiresBy, Chain, begun, taken, chainOf, holdsEmpty, part}
+use Rattle.theory_lists.specs.Logic.{found-mem, found-later, found-before}
+use Rattle.theory_pattern.specs.RowParts.{take-part, part-drop, join-norms, join-norm}
+use Rattle.theory_pattern.specs.Spots.{Taken, Ends, atT, aboveSingle, Fires, FiresBy, Chain, begun, taken, chainOf, holdsEmpty, part}
 use Rattle.theory_derive.specs.Written
 use Rattle.theory_derive.specs.Sets
 use Rattle.theory_derive.specs.Written.{keyOf, keyAt, oneLine, twoLine, above, toT, narrowed, atSpot, united, opening, chainLines, emptyLines, endLines, stepLines, takenLines, linesFrom, firstLine, proofLines}
-use Rattle.theory_derive.specs.Lines.{good-at, good-wider, chain-length}
+use Rattle.theory_derive.specs.Lines.{good-at, good-wider}
+use Rattle.theory_pattern.specs.Rows.{chain-length}
 use Rattle.theory_derive.specs.Runs.{FineLine, Runs, done, next, runs-append, runs-shift, runs-fine, first-follow}
 use Rattle.theory_derive.specs.Follow.{opening-runs, chain-runs}
 use Rattle.theory_derive.specs.FollowBelow.{end-runs, empty-runs}

@@ -12,15 +12,16 @@ use Rattle.meaning.specs.Paths.{Label, join, simple}
 use Rattle.meaning.specs.Keys.{Key}
 use Rattle.meaning.specs.Rules.{BeginsSome, withEmpty}
 use Rattle.meaning.specs.Pattern.{tOf}
-use Rattle.theory_paths.specs.Bools.{Each-at, Each-of}
+use Rattle.theory_lists.specs.Bools.{Each-at, Each-of}
 use Rattle.theory_paths.specs.Simple.{simple-left, simple-right, join-simples}
 use Rattle.theory_paths.specs.Good.{GoodKey, key-path-simple, key-path-length, paths-some, paths-ascending}
-use Rattle.theory_paths.specs.Lists.{with-empty-path, with-empty-each}
-use Rattle.theory_derive.specs.Logic.{each-imp}
+use Rattle.theory_lists.specs.Lists.{with-empty-path, with-empty-each}
+use Rattle.theory_lists.specs.Logic.{each-imp}
 use Rattle.theory_derive.specs.Sets.{insert, each-insert, ascending-one}
-use Rattle.theory_derive.specs.Spots.{chainOf, branchOf, lineOf, holdsEmpty, FiresBy}
+use Rattle.theory_pattern.specs.Spots.{chainOf, branchOf, rowOf, holdsEmpty, FiresBy}
 use Rattle.theory_derive.specs.Written.{above, toSpot, belowSpot}
-use Rattle.theory_derive.specs.Lines.{OnLine, ReadOff, branch-among, begins-read, among-begins}
+use Rattle.theory_derive.specs.Lines.{ReadOff, begins-read, among-begins}
+use Rattle.theory_pattern.specs.Rows.{OnRow, branch-among}
 use Rattle.theory_derive.specs.Landing.{landed-on, below-begins, below-whole}
 use Rattle.theory_derive.specs.Step.{above-spot, within, within-below, spot-below}
 
@@ -33,7 +34,7 @@ module _ (labels : List Label) (asked s : Key) (i j k : ℕ) (g : GoodKey labels
       (λ p m. record {
         isSimple = key-path-simple labels inProfile s gs p m;
         short = omega (arith, key-path-length labels inProfile s gs p m);
-        on = subst (λ l. OnLine asked (l ++ p)) (sym (above-spot asked s i j k f)) (landed-on asked j k p (Each-at (f .landing) p m));
+        on = subst (λ l. OnRow asked (l ++ p)) (sym (above-spot asked s i j k f)) (landed-on asked j k p (Each-at (f .landing) p m));
       })
 
   branch : List·Memᴰ (branchOf asked j) (asked .paths)
@@ -65,21 +66,21 @@ module _ (labels : List Label) (asked s : Key) (i j k : ℕ) (g : GoodKey labels
     pub paths-one : holdsEmpty asked ≡ false → s .paths ≡ belowSpot asked j k ∷ []
     unfolding belowSpot
     paths-one none =
-        ascending-one (drop k (lineOf asked j)) (s .paths) (paths-some labels inProfile s gs) (paths-ascending labels inProfile s gs)
+        ascending-one (drop k (rowOf asked j)) (s .paths) (paths-some labels inProfile s gs) (paths-ascending labels inProfile s gs)
         (each-imp (λ p l. below-whole asked j k p l h none) (f .landing))
 
     -- with e: "a set of beginnings of H"
     pub paths-begin : Each (BeginsSome (withEmpty (belowSpot asked j k))) (insert [] (s .paths))
     unfolding belowSpot
     paths-begin =
-        each-insert [] (record { rest = drop k (lineOf asked j); among = with-empty-path (drop k (lineOf asked j)) })
+        each-insert [] (record { rest = drop k (rowOf asked j); among = with-empty-path (drop k (rowOf asked j)) })
         (each-imp (λ p l. record {
-          rest = drop (k + length p) (lineOf asked j);
-          among = subst (λ q. List·Memᴰ q (withEmpty (drop k (lineOf asked j)))) (sym (below-begins asked j k p l h)) (with-empty-path (drop k (lineOf asked j)));
+          rest = drop (k + length p) (rowOf asked j);
+          among = subst (λ q. List·Memᴰ q (withEmpty (drop k (rowOf asked j)))) (sym (below-begins asked j k p l h)) (with-empty-path (drop k (rowOf asked j)));
         }) (f .landing))
 
     behind-read : (p r : List ℕ) → T (simple p) → length p ≤ 8 → p ++ r ≡ belowSpot asked j k → ReadOff asked (above asked i ++ toSpot asked i j k) p
-    unfolding lineOf
+    unfolding rowOf
     behind-read p r t short e =
         record {
           isSimple = t;

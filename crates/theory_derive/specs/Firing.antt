@@ -11,9 +11,9 @@ use borrow.Author.Tests.{le-leb, lt-leb}
 use Rattle.meaning.specs.Lists.{same, numbers}
 use Rattle.meaning.specs.Keys.{Key}
 use Rattle.meaning.specs.Pattern.{tOf}
-use Rattle.theory_paths.specs.Bools.{and-left, and-right, both, any-some, some-any, same-eq, eq-same, every-Each, Each-every}
-use Rattle.theory_derive.specs.Logic.{less-or, each-imp}
-use Rattle.theory_derive.specs.Spots.{Taken, lineOf, part, landsOn, lands, firesBy, firesFound, fires, LandsAt, FiresBy, Fires}
+use Rattle.theory_lists.specs.Bools.{and-left, and-right, both, any-some, some-any, same-eq, eq-same, every-Each, Each-every}
+use Rattle.theory_lists.specs.Logic.{less-or, each-imp}
+use Rattle.theory_pattern.specs.Spots.{Taken, rowOf, part, landsOn, lands, firesBy, firesFound, fires, LandsAt, FiresBy, Fires}
 
 -- `numbers` holds the numbers from the first on
 pub numbers-mem : (count n x : ℕ) → n ≤ x → x < n + count → List·Memᴰ x (numbers count n)
@@ -38,8 +38,8 @@ module _ (asked : Key) where
         at = at;
         isBranch = l;
         inBranch = b;
-        reads = same-eq _ _ (and-left (same (part k (k + length p) (lineOf asked at)) p) _ t);
-        mark = and-right (same (part k (k + length p) (lineOf asked at)) p) _ t;
+        reads = same-eq _ _ (and-left (same (part k (k + length p) (rowOf asked at)) p) _ t);
+        mark = and-right (same (part k (k + length p) (rowOf asked at)) p) _ t;
       }
 
   pub lands-says : (j k : ℕ) (p : List ℕ) → j < length (asked .paths) → T (lands asked j k p) → LandsAt asked j k p
@@ -58,7 +58,7 @@ module _ (asked : Key) where
   lands-test j k p h = go (less-or (tOf asked) k)
     where
       on : T (landsOn asked k p (h .at))
-      on = both (same (part k (k + length p) (lineOf asked (h .at))) p) _ (eq-same _ _ (h .reads)) (h .mark)
+      on = both (same (part k (k + length p) (rowOf asked (h .at))) p) _ (eq-same _ _ (h .reads)) (h .mark)
 
       go : (tOf asked < k) ⊎ (k ≤ tOf asked) → T (lands asked j k p)
       go (inl l) = rw (lt-leb k (tOf asked) l) (subst (λ at. T (landsOn asked k p at)) (h .inBranch l) on)
@@ -76,7 +76,7 @@ module _ (asked : Key) where
           isBranch = l;
           onChain = leb→le i (tOf asked) (search (and-left, and-right) depth 8);
           above = leb→le i k (search (and-left, and-right) depth 8);
-          onLine = leb→le k (length (lineOf asked j)) (search (and-left, and-right) depth 8);
+          onRow = leb→le k (length (rowOf asked j)) (search (and-left, and-right) depth 8);
           context = search (and-left, and-right) depth 8;
           target = search (and-left, and-right) depth 8;
           landing = each-imp (λ p h. lands-says j k p l h) (every-Each (lands asked j k) (s .paths) (search (and-left, and-right) depth 8));
@@ -88,7 +88,7 @@ module _ (asked : Key) where
         let a = lt→ltb j (length (asked .paths)) (f .isBranch) in
         let b = le→leb i (tOf asked) (f .onChain) in
         let c = le→leb i k (f .above) in
-        let d = le→leb k (length (lineOf asked j)) (f .onLine) in
+        let d = le→leb k (length (rowOf asked j)) (f .onRow) in
         let e = f .context in
         let g = f .target in
         let h = Each-every (lands asked j k) (each-imp (λ p r. lands-test j k p r) (f .landing)) in

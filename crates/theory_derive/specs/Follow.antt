@@ -14,19 +14,20 @@ use Rattle.meaning.specs.Paths.{Label, classOf, norm, simple, valid, Included}
 use Rattle.meaning.specs.Keys.{Key}
 use Rattle.meaning.specs.Rules.{rule0, rule2, rule3, rule5, rule6, rule7, rule9, Superkey, ContextTarget, Interaction}
 use Rattle.meaning.specs.Pattern.{tOf}
-use Rattle.theory_paths.specs.Bools.{Each-of, every-left}
+use Rattle.theory_lists.specs.Bools.{Each-of, every-left}
 use Rattle.theory_paths.specs.Words.{Word, member→word}
 use Rattle.theory_paths.specs.Valid.{mayStep, valid-norm, valid-append}
 use Rattle.theory_paths.specs.Normal.{run-norm←, norm-of-normal, norm-normal, join-three}
 use Rattle.theory_paths.specs.Inclusion.{included-of-word}
 use Rattle.theory_paths.specs.Simple.{simple-normal}
 use Rattle.theory_paths.specs.Good.{GoodKey, target-symbols, target-normal, target-length, key-path-symbols, key-path-simple, key-path-length, valid-below, paths-some, paths-within, paths-ascending}
-use Rattle.theory_derive.specs.Logic.{found-later, found-before}
-use Rattle.theory_derive.specs.Parts.{take-part, part-drop, join-norms, every-norm, norm-length}
+use Rattle.theory_lists.specs.Logic.{found-later, found-before}
+use Rattle.theory_pattern.specs.RowParts.{take-part, part-drop, join-norms, every-norm, norm-length}
 use Rattle.theory_derive.specs.Sets.{ascending-front}
-use Rattle.theory_derive.specs.Spots.{chainOf, branchOf, lineOf, part, holdsEmpty, FiresBy}
+use Rattle.theory_pattern.specs.Spots.{chainOf, branchOf, rowOf, part, holdsEmpty, FiresBy}
 use Rattle.theory_derive.specs.Written.{keyOf, keyAt, oneLine, twoLine, above, toSpot, toT, narrowed, atSpot, united, opening, chainLines}
-use Rattle.theory_derive.specs.Lines.{ReadOff, good-make, before-steps, chain-symbols, good-read, begins-read, among-begins, good-at, good-wider, chain-short, chain-length, line-length, branch-among}
+use Rattle.theory_derive.specs.Lines.{ReadOff, good-make, good-read, begins-read, among-begins, good-at, good-wider}
+use Rattle.theory_pattern.specs.Rows.{before-steps, chain-symbols, chain-short, chain-length, row-length, branch-among}
 use Rattle.theory_derive.specs.Runs.{FineLine, Runs, done, next}
 use Rattle.theory_derive.specs.Step
 use Rattle.theory_derive.specs.Branch
@@ -68,9 +69,9 @@ module _ (labels : List Label) (keys : List Key) (asked s : Key) (number i j k :
   to-spot-short =
       omega (
         arith,
-        length-drop i (take k (lineOf asked j)),
-        length-take k (lineOf asked j),
-        line-length asked j,
+        length-drop i (take k (rowOf asked j)),
+        length-take k (rowOf asked j),
+        row-length asked j,
         chain-short labels asked g,
         chain-length asked,
         key-path-length labels inProfile asked g (branchOf asked j) (branch-among asked j (f .isBranch)),
@@ -87,7 +88,7 @@ module _ (labels : List Label) (keys : List Key) (asked s : Key) (number i j k :
   good1 l =
       let κ = classOf labels in
       let A = take i (chainOf asked) in
-      let steps = every-norm (mayStep κ) A (subst (λ r. T (every (mayStep κ) r)) (above-line') (before-steps labels asked g i j (f .isBranch) (omega (arith, f .onLine)))) in
+      let steps = every-norm (mayStep κ) A (subst (λ r. T (every (mayStep κ) r)) (above-line') (before-steps labels asked g i j (f .isBranch) (omega (arith, f .onRow)))) in
       good-make labels inProof (narrowed asked s i)
       (every-norm (isSymbol labels) A (every-left (isSymbol labels) A (drop i (chainOf asked)) (subst (λ r. T (every (isSymbol labels) r)) (sym (take-append-drop i (chainOf asked))) (chain-symbols labels asked g))))
       (norm-normal A) (omega (arith, norm-length A, length-take i (chainOf asked), chain-short labels asked g))
@@ -100,7 +101,7 @@ module _ (labels : List Label) (keys : List Key) (asked s : Key) (number i j k :
       (subst (λ r. T (valid κ r)) (sym (append-assoc (norm A) (s .target) p))
       (valid-append κ (norm A) (s .target ++ p) steps (valid-below labels inProfile s gs p m))))))
     where
-      above-line' : take i (lineOf asked j) ≡ take i (chainOf asked)
+      above-line' : take i (rowOf asked j) ≡ take i (chainOf asked)
       above-line' = Step.above-line asked s i j k f
 
   -- "rule 0: s · rule 5 · rule 6"
@@ -121,10 +122,10 @@ module _ (labels : List Label) (keys : List Key) (asked s : Key) (number i j k :
       inC =
           included-of-word labels (norm (above asked i)) (s .context)
           (run-norm← (s .context) (above asked i)
-          (subst (Word (s .context)) (Step.above-line asked s i j k f) (member→word (s .context) (take i (lineOf asked j)) (f .context))))
+          (subst (Word (s .context)) (Step.above-line asked s i j k f) (member→word (s .context) (take i (rowOf asked j)) (f .context))))
 
       spot-word : Word (s .target) (toSpot asked i j k)
-      spot-word = member→word (s .target) (part i k (lineOf asked j)) (f .target)
+      spot-word = member→word (s .target) (part i k (rowOf asked j)) (f .target)
 
       inT : Included labels (norm (toSpot asked i j k)) (s .target)
       inT = included-of-word labels (norm (toSpot asked i j k)) (s .target) (run-norm← (s .target) (toSpot asked i j k) spot-word)

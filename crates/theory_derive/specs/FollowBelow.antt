@@ -12,15 +12,16 @@ use Rattle.meaning.specs.Paths.{Label, norm, join}
 use Rattle.meaning.specs.Keys.{Key}
 use Rattle.meaning.specs.Rules.{rule2, rule3, rule4, rule8, withEmpty}
 use Rattle.meaning.specs.Pattern.{tOf}
-use Rattle.theory_paths.specs.Bools.{Each-of}
+use Rattle.theory_lists.specs.Bools.{Each-of}
 use Rattle.theory_paths.specs.Good.{GoodKey, paths-within, paths-ascending}
-use Rattle.theory_paths.specs.Lists.{with-empty-empty, with-empty-each}
-use Rattle.theory_derive.specs.Logic.{mem-some}
-use Rattle.theory_derive.specs.Parts.{join-norm}
+use Rattle.theory_lists.specs.Lists.{with-empty-empty, with-empty-each}
+use Rattle.theory_lists.specs.Logic.{mem-some}
+use Rattle.theory_pattern.specs.RowParts.{join-norm}
 use Rattle.theory_derive.specs.Sets.{insert, insert-self, insert-old, insert-length, insert-ascending, ascending-empty}
-use Rattle.theory_derive.specs.Spots.{chainOf, branchOf, holdsEmpty, FiresBy}
+use Rattle.theory_pattern.specs.Spots.{chainOf, branchOf, holdsEmpty, FiresBy}
 use Rattle.theory_derive.specs.Written.{keyOf, keyAt, oneLine, twoLine, above, toSpot, toT, belowSpot, narrowed, atSpot, endLines, emptyLines}
-use Rattle.theory_derive.specs.Lines.{ReadOff, good-at, branch-among}
+use Rattle.theory_derive.specs.Lines.{ReadOff, good-at}
+use Rattle.theory_pattern.specs.Rows.{branch-among}
 use Rattle.theory_derive.specs.Runs.{FineLine, Runs, done, next}
 use Rattle.theory_derive.specs.Step
 use Rattle.theory_derive.specs.Branch

@@ -1,10 +1,7 @@
 -- ARGUMENT 4 and 5: the steps on lines of symbols, and the proof that is written.
-pub mod Logic
 pub mod Sets
-pub mod Spots
 pub mod Firing
 pub mod Written
-pub mod Parts
 pub mod Lines
 pub mod Landing
 pub mod Runs
@@ -14,11 +11,6 @@ pub mod Follow
 pub mod FollowBelow
 pub mod Accept
 pub mod Bytes
-pub mod Numbers
-pub mod Places
-pub mod Marks
-pub mod Singles
 pub mod Steps
 pub mod Lowest
 pub mod Ranges
-pub mod PatternOnce

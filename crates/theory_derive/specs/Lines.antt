@@ -1,56 +1,34 @@
--- The lines of the asked key, and the keys that are read off them: each is well formed. ARGUMENT 5: "all others are read off the asked
--- key's lines".
-use Prim.Native.Nat.{ℕ, suc, _+_, _≤_, _<_}
-use mathlib.Core.Path.{_≡_, refl, sym, ap, subst, _∙_}
+-- The keys that are read off the asked key's rows: each is well formed. ARGUMENT 5: "all others are read off the asked key's rows".
+use Prim.Native.Nat.{ℕ, _≤_}
+use mathlib.Core.Path.{refl, sym, subst}
 use mathlib.Core.Bool.{_&&_}
 use mathlib.Core.List.{List, [], _∷_, _++_, append-assoc, append-nil, List·Memᴰ, List·Memᴰ·head}
 use native.Mathlib.Omega.{arith}
 use lib.Dec.{T, leb, le→leb}
-use lib.ListN.{length, getD, take, drop, length-append, length-take, length-drop, take-append-drop}
-use lib.Seq.{split-at}
+use lib.ListN.{length, take, drop, length-append, length-take, length-drop, take-append-drop}
 use Rattle.meaning.specs.Limits.{KeyLimits, inProfile, inProof}
 use Rattle.meaning.specs.Lists.{Each, every, ascending}
 use Rattle.meaning.specs.Paths.{Label, classOf, normal, join, simple, valid}
 use Rattle.meaning.specs.Keys.{Key}
 use Rattle.meaning.specs.Rules.{BeginsSome}
-use Rattle.meaning.specs.Pattern.{tOf}
 use Rattle.meaning.specs.Refusals
 use Rattle.meaning.specs.Refusals.{isSymbol, goodPath, goodSymbols, goodSet}
-use Rattle.theory_paths.specs.Bools.{both, every-append, every-left, every-right, Each-at, Each-of, Each-every}
+use Rattle.theory_lists.specs.Bools.{both, every-left, every-right, Each-at, Each-of, Each-every}
 use Rattle.theory_paths.specs.Normal.{norm-normal}
 use Rattle.theory_paths.specs.Simple.{simple-left, simple-normal}
-use Rattle.theory_paths.specs.Valid.{mayStep, valid-left, valid-norm, valid-before}
-use Rattle.theory_paths.specs.Good.{GoodKey, context-symbols, target-symbols, key-path-symbols, key-path-simple, key-path-length, context-length, target-length, paths-some, paths-within, paths-ascending, valid-whole, valid-joined, context-normal, target-normal}
-use Rattle.theory_paths.specs.Lists.{getD-mem}
-use Rattle.theory_derive.specs.Logic.{each-imp}
-use Rattle.theory_derive.specs.Parts.{every-norm, norm-length, join-norms-three}
-use Rattle.theory_derive.specs.Spots.{chainOf, branchOf, lineOf}
+use Rattle.theory_paths.specs.Valid.{valid-norm}
+use Rattle.theory_paths.specs.Good.{GoodKey, context-symbols, target-symbols, key-path-symbols, key-path-simple, key-path-length, context-length, target-length, paths-some, paths-within, paths-ascending, valid-joined, context-normal, target-normal}
+use Rattle.theory_lists.specs.Logic.{each-imp}
+use Rattle.theory_pattern.specs.Rows.{OnRow, chain-short, on-symbols, on-valid}
+use Rattle.theory_pattern.specs.RowParts.{every-norm, norm-length, join-norms-three}
+use Rattle.theory_pattern.specs.Spots.{chainOf}
 use Rattle.theory_derive.specs.Written.{keyOf, keyAt}
 
--- X begins a line of the asked key
-pub record OnLine (asked : Key) (X : List ℕ) : Type 0 where
-  pub path : List ℕ
-  pub among : List·Memᴰ path (asked .paths)
-  pub rest : List ℕ
-  pub whole : X ++ rest ≡ chainOf asked ++ path
-
--- a key path of a line: simple, short, and read off a line behind what stands before it
+-- a key path of a line: simple, short, and read off a row behind what stands before it
 pub record ReadOff (asked : Key) (X p : List ℕ) : Type 0 where
   pub isSimple : T (simple p)
   pub short : length p ≤ 16
-  pub on : OnLine asked (X ++ p)
-
-pub chain-length : (asked : Key) → length (chainOf asked) ≡ tOf asked
-unfolding chainOf tOf
-chain-length asked = length-append (asked .context) (asked .target)
-
-pub branch-among : (asked : Key) (j : ℕ) → j < length (asked .paths) → List·Memᴰ (branchOf asked j) (asked .paths)
-unfolding branchOf
-branch-among asked j h = getD-mem (asked .paths) j [] h
-
-pub line-length : (asked : Key) (j : ℕ) → length (lineOf asked j) ≡ tOf asked + length (branchOf asked j)
-unfolding lineOf
-line-length asked j = length-append (chainOf asked) (branchOf asked j) ∙ ap (λ m. m + length (branchOf asked j)) (chain-length asked)
+  pub on : OnRow asked (X ++ p)
 
 -- a key that the limits let pass, put together
 pub good-make : (labels : List Label) (limits : KeyLimits) (k : Key) → T (every (isSymbol labels) (k .context)) → T (normal (k .context))
@@ -87,33 +65,13 @@ good-wider labels k g =
     (Each-of (k .paths) (λ p m. valid-joined labels inProfile k g p m))
 
 module _ (labels : List Label) (asked : Key) (g : GoodKey labels inProfile asked) where
-  pub chain-short : length (chainOf asked) ≤ 16
-  unfolding chainOf
-  chain-short =
-      omega (arith, length-append (asked .context) (asked .target), context-length labels inProfile asked g, target-length labels inProfile asked g)
-
-  pub on-symbols : (X : List ℕ) → OnLine asked X → T (every (isSymbol labels) X)
-  unfolding chainOf
-  on-symbols X o =
-      every-left (isSymbol labels) X (o .rest)
-      (subst (λ l. T (every (isSymbol labels) l)) (sym (o .whole))
-      (every-append (isSymbol labels) (chainOf asked) (o .path)
-      (every-append (isSymbol labels) (asked .context) (asked .target) (context-symbols labels inProfile asked g) (target-symbols labels inProfile asked g))
-      (key-path-symbols labels inProfile asked g (o .path) (o .among))))
-
-  pub on-valid : (X : List ℕ) → OnLine asked X → T (valid (classOf labels) X)
-  unfolding chainOf
-  on-valid X o =
-      valid-left (classOf labels) X (o .rest)
-      (subst (λ l. T (valid (classOf labels) l)) (sym (o .whole)) (valid-whole labels inProfile asked g (o .path) (o .among)))
-
-  -- a key whose context, target and key paths are read off the lines
+  -- a key whose context, target and key paths are read off the rows
   pub good-read : (C X : List ℕ) (S : List (List ℕ)) → length C ≤ 32 → length X ≤ 32 → 1 ≤ length S → length S ≤ 64 → T (ascending S)
       → Each (ReadOff asked (C ++ X)) S → GoodKey labels inProof (keyOf C X S)
   unfolding keyOf
   good-read C X [] c x some within asc e = absurd (omega arith)
   good-read C X (q ∷ S) c x some within asc e =
-      let symbols : (p : List ℕ) → ReadOff asked (C ++ X) p → T (every (isSymbol labels) (C ++ X ++ p)) = λ p r. on-symbols (C ++ X ++ p) (r .on) in
+      let symbols : (p : List ℕ) → ReadOff asked (C ++ X) p → T (every (isSymbol labels) (C ++ X ++ p)) = λ p r. on-symbols labels asked g (C ++ X ++ p) (r .on) in
       let chain = every-left (isSymbol labels) (C ++ X) q (symbols q (Each-at e q (List·Memᴰ·head refl))) in
       good-make labels inProof (keyOf C X (q ∷ S))
       (every-norm (isSymbol labels) C (every-left (isSymbol labels) C X chain)) (norm-normal C) (omega (arith, norm-length C))
@@ -121,10 +79,10 @@ module _ (labels : List Label) (asked : Key) (g : GoodKey labels inProfile asked
       (each-imp (λ p r. (every-right (isSymbol labels) (C ++ X) p (symbols p r), r .isSimple, r .short)) e) some within asc
       (each-imp
       (λ p r. subst (λ l. T (valid (classOf labels) l)) (sym (join-norms-three C X p))
-      (subst T (sym (valid-norm (classOf labels) (C ++ X ++ p))) (on-valid (C ++ X ++ p) (r .on)))) e)
+      (subst T (sym (valid-norm (classOf labels) (C ++ X ++ p))) (on-valid labels asked g (C ++ X ++ p) (r .on)))) e)
 
   -- what begins a key path of the asked key is read off behind t
-  pub begins-on : (u : List ℕ) → BeginsSome (asked .paths) u → OnLine asked (chainOf asked ++ u)
+  pub begins-on : (u : List ℕ) → BeginsSome (asked .paths) u → OnRow asked (chainOf asked ++ u)
   begins-on u b =
       record {
         path = u ++ b .rest;
@@ -152,24 +110,6 @@ module _ (labels : List Label) (asked : Key) (g : GoodKey labels inProfile asked
   good-at h =
       let e = take-append-drop h (chainOf asked) in
       good-read (take h (chainOf asked)) (drop h (chainOf asked)) (asked .paths)
-      (omega (arith, length-take h (chainOf asked), chain-short)) (omega (arith, length-drop h (chainOf asked), chain-short))
+      (omega (arith, length-take h (chainOf asked), chain-short labels asked g)) (omega (arith, length-drop h (chainOf asked), chain-short labels asked g))
       (paths-some labels inProfile asked g) (omega (arith, paths-within labels inProfile asked g)) (paths-ascending labels inProfile asked g)
       (subst (λ l. Each (ReadOff asked l) (asked .paths)) (sym e) (Each-of (asked .paths) (λ p m. begins-read p (among-begins p m))))
-
-  -- each line is valid, so what stands before another symbol of it steps on
-  pub line-valid : (j : ℕ) → j < length (asked .paths) → T (valid (classOf labels) (lineOf asked j))
-  unfolding lineOf
-  line-valid j h =
-      on-valid (lineOf asked j)
-      (record { path = branchOf asked j; among = branch-among asked j h; rest = []; whole = append-nil (lineOf asked j) })
-
-  pub before-steps : (i j : ℕ) → j < length (asked .paths) → i < length (lineOf asked j)
-      → T (every (mayStep (classOf labels)) (take i (lineOf asked j)))
-  before-steps i j h l =
-      valid-before (classOf labels) (take i (lineOf asked j)) (getD (lineOf asked j) i 0) (drop (suc i) (lineOf asked j))
-      (subst (λ r. T (valid (classOf labels) r)) (split-at (lineOf asked j) i 0 l) (line-valid j h))
-
-  pub chain-symbols : T (every (isSymbol labels) (chainOf asked))
-  unfolding chainOf
-  chain-symbols =
-      every-append (isSymbol labels) (asked .context) (asked .target) (context-symbols labels inProfile asked g) (target-symbols labels inProfile asked g)

@@ -15,17 +15,17 @@ use Rattle.meaning.specs.Paths.{Label, classOf, singles}
 use Rattle.meaning.specs.Trees.{Child}
 use Rattle.meaning.specs.Keys.{Key}
 use Rattle.meaning.specs.Pattern.{drawn, pattern, tOf, qOf, Step, toChild, toParent, byKey, Leads, arrived, onward, IsU}
-use Rattle.theory_paths.specs.Bools.{Each-at}
+use Rattle.theory_lists.specs.Bools.{Each-at}
 use Rattle.theory_paths.specs.Good.{GoodLabels, GoodKey, paths-some}
-use Rattle.theory_derive.specs.Logic.{less-or}
-use Rattle.theory_derive.specs.Spots.{Taken, chainOf, branchOf, lineOf, Ends, atT, aboveSingle, Fires, Chain, begun, taken}
-use Rattle.theory_derive.specs.Lines.{chain-length, line-length}
-use Rattle.theory_derive.specs.Numbers.{spotNode, spot-chain}
-use Rattle.theory_derive.specs.Places.{IsSpot, Place, spot-label, spot-child, spot-parent, spot-above, place-of, spot-once}
+use Rattle.theory_lists.specs.Logic.{less-or}
+use Rattle.theory_pattern.specs.Spots.{Taken, chainOf, branchOf, rowOf, Ends, atT, aboveSingle, Fires, Chain, begun, taken}
+use Rattle.theory_pattern.specs.Rows.{chain-length, row-length}
+use Rattle.theory_pattern.specs.Numbers.{spotNode, spot-chain}
+use Rattle.theory_pattern.specs.Places.{IsSpot, Place, spot-label, spot-child, spot-parent, spot-above, place-of, spot-once}
 use Rattle.theory_derive.specs.Steps.{OnLines, fires-step, on-lines}
 use Rattle.theory_derive.specs.Accept.{turns}
-use Rattle.theory_derive.specs.Singles.{single-clear, single-symbol}
-use Rattle.theory_derive.specs.PatternOnce.{single-end}
+use Rattle.theory_pattern.specs.Singles.{single-clear, single-symbol}
+use Rattle.theory_pattern.specs.PatternOnce.{single-end}
 
 -- a member of a list has a number there
 pub record Numbered {A : Type 0} (xs : List A) (x : A) : Type 0 where
@@ -52,8 +52,8 @@ module _ (single : ℕ → Bool) (keys : List Key) (asked : Key) where
       let g = f .firing in
       let j = t .branch in
       let k = t .spot in
-      let spot : IsSpot asked j k = record { isBranch = g .isBranch; onLine = g .onLine } in
-      let chained : IsSpot asked j u = record { isBranch = g .isBranch; onLine = omega (arith, line-length asked j) } in
+      let spot : IsSpot asked j k = record { isBranch = g .isBranch; onRow = g .onRow } in
+      let chained : IsSpot asked j u = record { isBranch = g .isBranch; onRow = omega (arith, row-length asked j) } in
       let back : Leads single keys asked (t .node) (qOf asked) =
       subst (λ x. Leads single keys asked x (qOf asked)) (spot-chain asked j (t .node) (g .onChain))
       (leads-down (u - t .node) (t .node) j u (qOf asked) (omega arith) chained
@@ -79,13 +79,13 @@ module _ (second : Bool) (labels : List Label) (gl : GoodLabels labels) (keys : 
   -- a single label stands last on its line, so on the chain there is none above t
   single-last : (u j : ℕ) → u < tOf asked → IsSpot asked j (suc u) → T (single (pattern asked .label (spotNode asked j (suc u))))
       → (suc u ≡ tOf asked) × T (single (getD (chainOf asked) u 0))
-  unfolding lineOf
+  unfolding rowOf
   single-last u j h s t =
-      let line = lineOf asked j in
+      let line = rowOf asked j in
       let same : getD line u 0 ≡ getD (chainOf asked) u 0 = List·getD-append (chainOf asked) (branchOf asked j) 0 u (omega (arith, chain-length asked)) in
       let d = single-symbol second labels gl (getD line u 0) (subst (λ (k : ℕ). T (single k)) (spot-label asked j u s) t) in
       let end = single-end second labels gl asked g j u s t in
-      (omega (arith, line-length asked j), subst (λ (k : ℕ). T (single k)) same d)
+      (omega (arith, row-length asked j), subst (λ (k : ℕ). T (single k)) same d)
 
   module _ (u : ℕ) (un : u < tOf asked) (final : (t : Taken) → Fires keys asked t → u < t .spot → t .node ≤ u → ⊥)
       (above : suc u ≡ tOf asked → T (single (getD (chainOf asked) u 0)) → ⊥) where
@@ -157,7 +157,7 @@ module _ (second : Bool) (labels : List Label) (gl : GoodLabels labels) (keys : 
       lowest : (v : ℕ) → u < v → v ≤ tOf asked → Leads single keys asked v (qOf asked) → ⊥
       lowest v l n h =
           let m = paths-some labels inProfile asked g in
-          let spot : (w : ℕ) → w ≤ tOf asked → IsSpot asked 0 w = λ w k. record { isBranch = m; onLine = omega (arith, line-length asked 0) } in
+          let spot : (w : ℕ) → w ≤ tOf asked → IsSpot asked 0 w = λ w k. record { isBranch = m; onRow = omega (arith, row-length asked 0) } in
           let b = leads-below u (omega arith) final (λ e s. not (aboveSingle e s))
           (record { branch = 0; depth = v; spot = spot v n; place = sym (spot-chain asked 0 v n); deeper = l }) h in
           let o = spot-once asked (b .branch) 0 (b .depth) (qOf asked) (b .spot) (spot (qOf asked) (omega (arith, r .0, r .1)))
@@ -170,19 +170,19 @@ module _ (second : Bool) (labels : List Label) (gl : GoodLabels labels) (keys : 
   chain-implies {u} chain (aboveSingle e s) =
       onward u
       (toParent
-      (subst (λ (k : ℕ). T (single k)) (sym (ap (pattern asked .label) t-is ∙ spot-label asked 0 u spot ∙ drawn-same (getD (lineOf asked 0) u 0) s′)) s′)
+      (subst (λ (k : ℕ). T (single k)) (sym (ap (pattern asked .label) t-is ∙ spot-label asked 0 u spot ∙ drawn-same (getD (rowOf asked 0) u 0) s′)) s′)
       (subst₂ (λ (a b : ℕ). Child (pattern asked) a b) (spot-chain asked 0 u (omega arith)) (sym t-is) (spot-child asked 0 u spot)))
       (chain-leads single keys asked chain)
     where
       spot : IsSpot asked 0 (suc u)
-      spot = record { isBranch = paths-some labels inProfile asked g; onLine = omega (arith, line-length asked 0) }
+      spot = record { isBranch = paths-some labels inProfile asked g; onRow = omega (arith, row-length asked 0) }
 
       t-is : tOf asked ≡ spotNode asked 0 (suc u)
       t-is = sym e ∙ sym (spot-chain asked 0 (suc u) (omega arith))
 
-      s′ : T (single (getD (lineOf asked 0) u 0))
+      s′ : T (single (getD (rowOf asked 0) u 0))
       s′ =
-          unfold lineOf in
+          unfold rowOf in
           subst (λ (k : ℕ). T (single k)) (sym (List·getD-append (chainOf asked) (branchOf asked 0) 0 u (omega (arith, chain-length asked)))) s
 
       drawn-same : (n : ℕ) → T (single n) → drawn n ≡ n

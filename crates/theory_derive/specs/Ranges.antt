@@ -11,14 +11,14 @@ use lib.Seq.{take-append-le}
 use Rattle.meaning.specs.Paths.{member}
 use Rattle.meaning.specs.Keys.{Key}
 use Rattle.meaning.specs.Pattern.{tOf}
-use Rattle.theory_derive.specs.Logic.{less-or, each-imp, found-below}
-use Rattle.theory_derive.specs.Spots.{Taken, chainOf, branchOf, lineOf, part, fires, FiresBy, Fires}
+use Rattle.theory_lists.specs.Logic.{less-or, each-imp, found-below}
+use Rattle.theory_pattern.specs.Spots.{Taken, chainOf, branchOf, rowOf, part, fires, FiresBy, Fires}
 use Rattle.theory_derive.specs.Firing.{fires-test}
-use Rattle.theory_derive.specs.Lines.{chain-length, line-length}
+use Rattle.theory_pattern.specs.Rows.{chain-length, row-length}
 
 -- "with k ≤ n it is the chain's node k, the same for every j"
-pub line-shared : (asked : Key) (i j k : ℕ) → k ≤ tOf asked → take k (lineOf asked i) ≡ take k (lineOf asked j)
-unfolding lineOf
+pub line-shared : (asked : Key) (i j k : ℕ) → k ≤ tOf asked → take k (rowOf asked i) ≡ take k (rowOf asked j)
+unfolding rowOf
 line-shared asked i j k h =
     take-append-le k (chainOf asked) (branchOf asked i) (omega (arith, chain-length asked))
     ∙ sym (take-append-le k (chainOf asked) (branchOf asked j) (omega (arith, chain-length asked)))
@@ -30,7 +30,7 @@ fires-any-branch asked s i j b k h l f =
       isBranch = l;
       onChain = f .onChain;
       above = f .above;
-      onLine = omega (arith, line-length asked b);
+      onRow = omega (arith, row-length asked b);
       context = subst (λ r. T (member (s .context) r)) (line-shared asked j b i (omega (arith, f .above))) (f .context);
       target = subst (λ r. T (member (s .target) (drop i r))) (line-shared asked j b k h) (f .target);
       landing = each-imp (λ p m. record { at = m .at; isBranch = m .isBranch; inBranch = λ c. absurd (omega arith); reads = m .reads; mark = m .mark }) (f .landing);
@@ -44,7 +44,7 @@ module _ (keys : List Key) (asked : Key) (u : ℕ) where
     pub branch : t .branch < length (asked .paths)
     pub first : t .spot ≤ tOf asked → t .branch ≡ 0
     pub below : u < t .spot
-    pub onLine : t .spot ≤ length (lineOf asked (t .branch))
+    pub onRow : t .spot ≤ length (rowOf asked (t .branch))
 
   pub none-left : ((t : Taken) → InRange t → fires keys asked t ≡ false) → (t : Taken) → Fires keys asked t → u < t .spot → t .node ≤ u → ⊥
   none-left none t f k i = go (less-or (tOf asked) (t .spot))
@@ -53,7 +53,7 @@ module _ (keys : List Key) (asked : Key) (u : ℕ) where
       fails b g z =
           let r : Taken = record { key = t .key; node = t .node; branch = b; spot = t .spot } in
           subst T
-          (none r (record { key = found-below keys (t .key) (f .cited); node = i; branch = g .isBranch; first = z; below = k; onLine = g .onLine }))
+          (none r (record { key = found-below keys (t .key) (f .cited); node = i; branch = g .isBranch; first = z; below = k; onRow = g .onRow }))
           (fires-test keys asked r (record { by = f .by; cited = f .cited; firing = g }))
 
       go : (tOf asked < t .spot) ⊎ (t .spot ≤ tOf asked) → ⊥

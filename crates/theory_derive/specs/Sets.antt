@@ -1,8 +1,8 @@
 -- Sets of key paths in 01's order, "shorter first, equal lengths by bytes, none twice": a path inserted in its place, and one set united
 -- with another. ARGUMENT, before 1: "putting F in front of every path keeps the order, uniting sets and adding e do not".
 use Prim.Native.Nat.{ℕ, suc, _+_, _≤_, _<_}
-use mathlib.Core.Path.{_≡_, refl, sym, ap, ap₂, subst}
-use mathlib.Core.Logic.{_⊎_, inl, inr, ⊎-elim}
+use mathlib.Core.Path.{_≡_, refl, sym, ap, subst}
+use mathlib.Core.Logic.{⊎-elim}
 use mathlib.Core.Bool.{Bool, true, false, cond}
 use mathlib.Core.List.{List, [], _∷_, _++_, map, List·Memᴰ, List·Memᴰ·head, List·Memᴰ·tail}
 use native.Mathlib.Omega.{arith}
@@ -10,8 +10,8 @@ use lib.Dec.{T, eqb, ltb, eqb→eq, eqb-refl, lt→ltb, ltb→lt}
 use lib.ListN.{length, length-append}
 use Rattle.meaning.specs.Lists.{Each, end, also, same, lower, before, ascending}
 use Rattle.meaning.specs.Rules.{withEmpty}
-use Rattle.theory_paths.specs.Bools.{and-left, and-right, both, or-left, or-right, or-cases, eqb-of, same-eq, same-refl}
-use Rattle.theory_derive.specs.Logic.{less-or}
+use Rattle.theory_lists.specs.Bools.{and-left, and-right, both, or-left, or-right, or-cases, eqb-of, same-eq, same-refl}
+use Rattle.theory_lists.specs.Order.{before-or, before-itself}
 
 -- a path put into its place; where the set holds it already, nothing changes
 unfoldable pub insert : List ℕ → List (List ℕ) → List (List ℕ)
@@ -24,54 +24,6 @@ insert p (q ∷ qs) =
 unfoldable pub unite : List (List ℕ) → List (List ℕ) → List (List ℕ)
 unite set [] = set
 unite set (p ∷ ps) = unite (insert p set) ps
-
--- ---- the order decides
-
-pub lower-or : (p q : List ℕ) → length p ≡ length q → T (lower p q) ⊎ (p ≡ q) ⊎ T (lower q p)
-unfolding lower
-lower-or [] [] e = inr (inl refl)
-lower-or [] (y ∷ q) e = absurd (let z : 0 ≡ suc (length q) = e in omega arith)
-lower-or (x ∷ p) [] e = absurd (let z : suc (length p) ≡ 0 = e in omega arith)
-lower-or (x ∷ p) (y ∷ q) e = go (less-or x y) (less-or y x) (lower-or p q (let z : suc (length p) ≡ suc (length q) = e in omega arith))
-  where
-    Goal : Type 0
-    Goal = T (lower (x ∷ p) (y ∷ q)) ⊎ ((x ∷ p) ≡ (y ∷ q)) ⊎ T (lower (y ∷ q) (x ∷ p))
-
-    go : (x < y) ⊎ (y ≤ x) → (y < x) ⊎ (x ≤ y) → T (lower p q) ⊎ (p ≡ q) ⊎ T (lower q p) → Goal
-    go (inl h) k r = inl (or-left (ltb x y) _ (lt→ltb x y h))
-    go (inr h) (inl k) r = inr (inr (or-left (ltb y x) _ (lt→ltb y x k)))
-    go (inr h) (inr k) (inl r) = inl (or-right (ltb x y) _ (both (eqb x y) _ (eqb-of x y (omega arith)) r))
-    go (inr h) (inr k) (inr (inl r)) = inr (inl (ap₂ {C = List ℕ} (λ a b. a ∷ b) (omega arith) r))
-    go (inr h) (inr k) (inr (inr r)) = inr (inr (or-right (ltb y x) _ (both (eqb y x) _ (eqb-of y x (omega arith)) r)))
-
--- of two paths that differ, one stands before the other
-pub before-or : (p q : List ℕ) → T (before p q) ⊎ (p ≡ q) ⊎ T (before q p)
-unfolding before
-before-or p q = go (less-or (length p) (length q)) (less-or (length q) (length p))
-  where
-    equal : length p ≡ length q → T (before p q) ⊎ (p ≡ q) ⊎ T (before q p)
-    equal e =
-        ⊎-elim (λ r. inl (or-right (ltb (length p) (length q)) _ (both (eqb (length p) (length q)) _ (eqb-of (length p) (length q) e) r)))
-        (⊎-elim (λ r. inr (inl r)) (λ r. inr (inr (or-right (ltb (length q) (length p)) _ (both (eqb (length q) (length p)) _ (eqb-of (length q) (length p) (sym e)) r)))))
-        (lower-or p q e)
-
-    go : (length p < length q) ⊎ (length q ≤ length p) → (length q < length p) ⊎ (length p ≤ length q) → T (before p q) ⊎ (p ≡ q) ⊎ T (before q p)
-    go (inl h) k = inl (or-left (ltb (length p) (length q)) _ (lt→ltb (length p) (length q) h))
-    go (inr h) (inl k) = inr (inr (or-left (ltb (length q) (length p)) _ (lt→ltb (length q) (length p) k)))
-    go (inr h) (inr k) = equal (omega arith)
-
-lower-itself : (p : List ℕ) → T (lower p p) → ⊥
-unfolding lower
-lower-itself [] h = h
-lower-itself (x ∷ p) h =
-    ⊎-elim (λ k. let z : x < x = ltb→lt x x k in omega arith) (λ k. lower-itself p (and-right (eqb x x) _ k)) (or-cases (ltb x x) _ h)
-
--- no path stands before itself
-pub before-itself : (p : List ℕ) → T (before p p) → ⊥
-unfolding before
-before-itself p h =
-    ⊎-elim (λ k. let z : length p < length p = ltb→lt (length p) (length p) k in omega arith)
-    (λ k. lower-itself p (and-right (eqb (length p) (length p)) _ k)) (or-cases (ltb (length p) (length p)) _ h)
 
 -- ---- a path inserted
 

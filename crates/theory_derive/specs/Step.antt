@@ -13,16 +13,17 @@ use Rattle.meaning.specs.Paths.{Label, norm, join, simple}
 use Rattle.meaning.specs.Keys.{Key}
 use Rattle.meaning.specs.Rules.{BeginsSome}
 use Rattle.meaning.specs.Pattern.{tOf}
-use Rattle.theory_paths.specs.Bools.{any-some, of-true, Each-at, Each-of}
+use Rattle.theory_lists.specs.Bools.{any-some, of-true, Each-at, Each-of}
 use Rattle.theory_paths.specs.Normal.{norm-of-normal}
 use Rattle.theory_paths.specs.Simple.{simple-left, simple-append, simple-normal}
 use Rattle.theory_paths.specs.Good.{GoodKey, key-path-simple, key-path-length, paths-within, paths-ascending, some-path}
-use Rattle.theory_derive.specs.Logic.{each-imp, each-map, mem-some}
-use Rattle.theory_derive.specs.Parts.{take-part, part-drop, take-past, drop-past, join-norm}
+use Rattle.theory_lists.specs.Logic.{each-imp, each-map, mem-some}
+use Rattle.theory_pattern.specs.RowParts.{take-part, part-drop, take-past, drop-past, join-norm}
 use Rattle.theory_derive.specs.Sets.{unite, each-unite, unite-first, unite-second, unite-length, unite-ascending}
-use Rattle.theory_derive.specs.Spots.{chainOf, branchOf, lineOf, part, holdsEmpty, FiresBy}
+use Rattle.theory_pattern.specs.Spots.{chainOf, branchOf, rowOf, part, holdsEmpty, FiresBy}
 use Rattle.theory_derive.specs.Written.{above, toSpot, toT, belowSpot, beyond, united}
-use Rattle.theory_derive.specs.Lines.{OnLine, ReadOff, chain-length, begins-read, begins-on, begins-simple, begins-short, among-begins}
+use Rattle.theory_derive.specs.Lines.{ReadOff, begins-read, begins-on, begins-simple, begins-short, among-begins}
+use Rattle.theory_pattern.specs.Rows.{OnRow, chain-length}
 use Rattle.theory_derive.specs.Landing.{Beyond, beyond-of}
 
 pub map-each : {A B : Type 0} (f g : A → B) {xs : List A} → Each (λ x. f x ≡ g x) xs → map f xs ≡ map g xs
@@ -45,17 +46,17 @@ unfolding above toT
 above-t asked i = take-append-drop i (chainOf asked)
 
 module _ (asked s : Key) (i j k : ℕ) (f : FiresBy asked s i j k) where
-  pub above-line : take i (lineOf asked j) ≡ above asked i
-  unfolding lineOf above
+  pub above-line : take i (rowOf asked j) ≡ above asked i
+  unfolding rowOf above
   above-line = take-append-le i (chainOf asked) (branchOf asked j) (omega (arith, f .onChain, chain-length asked))
 
-  pub above-spot : above asked i ++ toSpot asked i j k ≡ take k (lineOf asked j)
+  pub above-spot : above asked i ++ toSpot asked i j k ≡ take k (rowOf asked j)
   unfolding toSpot
-  above-spot = ap (λ l. l ++ part i k (lineOf asked j)) (sym above-line) ∙ take-part i k (lineOf asked j) (f .above)
+  above-spot = ap (λ l. l ++ part i k (rowOf asked j)) (sym above-line) ∙ take-part i k (rowOf asked j) (f .above)
 
   -- k ≤ n
-  pub chain-spot : k ≤ tOf asked → take k (lineOf asked j) ≡ above asked k
-  unfolding lineOf above
+  pub chain-spot : k ≤ tOf asked → take k (rowOf asked j) ≡ above asked k
+  unfolding rowOf above
   chain-spot h = take-append-le k (chainOf asked) (branchOf asked j) (omega (arith, chain-length asked))
 
   pub spot-to-t : k ≤ tOf asked → toSpot asked i j k ++ toT asked k ≡ toT asked i
@@ -67,20 +68,20 @@ module _ (asked s : Key) (i j k : ℕ) (f : FiresBy asked s i j k) where
   within = take (k - length (chainOf asked)) (branchOf asked j)
 
   pub t-to-spot : tOf asked < k → toSpot asked i j k ≡ toT asked i ++ within
-  unfolding toSpot toT part lineOf within
+  unfolding toSpot toT part rowOf within
   t-to-spot h =
       ap (drop i) (take-past (chainOf asked) (branchOf asked j) k (omega (arith, chain-length asked)))
       ∙ drop-append-le i (chainOf asked) _ (omega (arith, f .onChain, chain-length asked))
 
   pub within-below : tOf asked < k → within ++ belowSpot asked j k ≡ branchOf asked j
-  unfolding belowSpot lineOf within
+  unfolding belowSpot rowOf within
   within-below h =
       ap (λ l. take (k - length (chainOf asked)) (branchOf asked j) ++ l) (drop-past (chainOf asked) (branchOf asked j) k (omega (arith, chain-length asked)))
       ∙ take-append-drop (k - length (chainOf asked)) (branchOf asked j)
 
-  pub spot-below : take k (lineOf asked j) ++ belowSpot asked j k ≡ lineOf asked j
+  pub spot-below : take k (rowOf asked j) ++ belowSpot asked j k ≡ rowOf asked j
   unfolding belowSpot
-  spot-below = take-append-drop k (lineOf asked j)
+  spot-below = take-append-drop k (rowOf asked j)
 
 -- The sets of the case k ≤ n
 module _ (labels : List Label) (asked s : Key) (i j k : ℕ) (g : GoodKey labels inProfile asked) (gs : GoodKey labels inProfile s)
@@ -186,7 +187,7 @@ module _ (labels : List Label) (asked s : Key) (i j k : ℕ) (g : GoodKey labels
       (each-imp (λ u b. record {
         isSimple = simple-append (toT asked k) u onward-simple (begins-simple labels asked g u b);
         short = omega (arith, onward-short, begins-short labels asked g u b, length-append (toT asked k) u);
-        on = subst (OnLine asked) (along u) (begins-on labels asked g u b);
+        on = subst (OnRow asked) (along u) (begins-on labels asked g u b);
       }) united-begins)
     where
       along : (u : List ℕ) → chainOf asked ++ u ≡ above asked i ++ toSpot asked i j k ++ (toT asked k ++ u)

@@ -13,17 +13,17 @@ use Rattle.meaning.specs.Paths.{Label, member, simple}
 use Rattle.meaning.specs.Trees.{Reached}
 use Rattle.meaning.specs.Keys.{Key}
 use Rattle.meaning.specs.Pattern.{pattern, tOf, marked, Lands, Step, byKey}
-use Rattle.theory_paths.specs.Bools.{Each-at, Each-of}
+use Rattle.theory_lists.specs.Bools.{Each-at, Each-of}
 use Rattle.theory_paths.specs.Words.{word-refl, member→word, word→member, word-trans}
 use Rattle.theory_paths.specs.Inclusion.{fill, fill-word, noFiller, unfill-word}
 use Rattle.theory_paths.specs.Simple.{simple-word}
 use Rattle.theory_paths.specs.Good.{GoodLabels, GoodKey, context-clear, target-clear, key-path-clear, key-path-simple, paths-some}
-use Rattle.theory_derive.specs.Logic.{less-or, each-imp, found-mem}
-use Rattle.theory_derive.specs.Spots.{Taken, lineOf, part, markedAt, LandsAt, FiresBy, Fires}
-use Rattle.theory_derive.specs.Lines.{line-length}
-use Rattle.theory_derive.specs.Numbers.{spotNode, spot-chain, spot-inside, pattern-size}
-use Rattle.theory_derive.specs.Places.{IsSpot, Place, spot-above, place-of, spot-once, spot-shared, spot-down, down-spot, down-inside}
-use Rattle.theory_derive.specs.Marks.{marked-says, marked-test}
+use Rattle.theory_lists.specs.Logic.{less-or, each-imp, found-mem}
+use Rattle.theory_pattern.specs.Spots.{Taken, rowOf, part, markedAt, LandsAt, FiresBy, Fires}
+use Rattle.theory_pattern.specs.Rows.{row-length}
+use Rattle.theory_pattern.specs.Numbers.{spotNode, spot-chain, spot-inside, pattern-size}
+use Rattle.theory_pattern.specs.Places.{IsSpot, Place, spot-above, place-of, spot-once, spot-shared, spot-down, down-spot, down-inside}
+use Rattle.theory_pattern.specs.Marks.{marked-says, marked-test}
 
 -- a path that the symbols are a word of is a path that the labels are a word of, 201 standing for 0
 fill-member : (P X : List ℕ) → T (member P X) → T (member P (fill X))
@@ -42,13 +42,13 @@ part-zero k l = refl
 
 module _ (asked : Key) where
   -- the labels from one spot down to another
-  reached : (i j k : ℕ) (P : List ℕ) → i ≤ k → IsSpot asked j k → T (member P (part i k (lineOf asked j)))
+  reached : (i j k : ℕ) (P : List ℕ) → i ≤ k → IsSpot asked j k → T (member P (part i k (rowOf asked j)))
       → Reached (pattern asked) (spotNode asked j i) P (spotNode asked j k)
   reached i j k P h s m =
       record {
-        run = fill (part i k (lineOf asked j));
+        run = fill (part i k (rowOf asked j));
         down = spot-down asked (k - i) i j k (omega arith) s;
-        word = fill-member P (part i k (lineOf asked j)) m;
+        word = fill-member P (part i k (rowOf asked j)) m;
       }
 
   lands-node : (j k : ℕ) → IsSpot asked j k → (p : List ℕ) → LandsAt asked j k p → Lands asked (spotNode asked j k) p
@@ -63,18 +63,18 @@ module _ (asked : Key) where
       }
     where
       line : List ℕ
-      line = lineOf asked (h .at)
+      line = rowOf asked (h .at)
 
       inside : k ≤ length line
       inside =
-          ⊎-elim (λ l. subst (λ b. k ≤ length (lineOf asked b)) (sym (h .inBranch l)) (s .onLine)) (λ l. omega (arith, line-length asked (h .at)))
+          ⊎-elim (λ l. subst (λ b. k ≤ length (rowOf asked b)) (sym (h .inBranch l)) (s .onRow)) (λ l. omega (arith, row-length asked (h .at)))
           (less-or (tOf asked) k)
 
       spot : IsSpot asked (h .at) (k + length p)
       spot =
           record {
             isBranch = h .isBranch;
-            onLine = omega (arith, inside, ap length (h .reads), length-drop k (take (k + length p) line), length-take (k + length p) line);
+            onRow = omega (arith, inside, ap length (h .reads), length-drop k (take (k + length p) line), length-take (k + length p) line);
           }
 
   -- a step on the lines is a step of the pattern
@@ -82,7 +82,7 @@ module _ (asked : Key) where
   unfolding part
   fires-step single keys t f =
       let g = f .firing in
-      let spot : IsSpot asked (t .branch) (t .spot) = record { isBranch = g .isBranch; onLine = g .onLine } in
+      let spot : IsSpot asked (t .branch) (t .spot) = record { isBranch = g .isBranch; onRow = g .onRow } in
       let root = spot-chain asked (t .branch) 0 (omega arith) in
       let top = spot-chain asked (t .branch) (t .node) (g .onChain) in
       byKey (f .by) (found-mem keys (t .key) (f .cited))
@@ -110,17 +110,17 @@ module _ (labels : List Label) (gl : GoodLabels labels) (asked : Key) (g : GoodK
   lands-at j k s p simp clear h = go (place-of asked (paths-some labels inProfile asked g) (h .mark) inside)
     where
       inside : h .mark < pattern asked .size
-      inside = down-inside asked (h .reached .down) (spot-inside asked j k (s .isBranch) (s .onLine))
+      inside = down-inside asked (h .reached .down) (spot-inside asked j k (s .isBranch) (s .onRow))
 
       go : Place asked (h .mark) → LandsAt asked j k p
       go m =
           let b = down-spot asked (m .branch) (m .depth) (m .spot) (h .reached .down) (m .place) in
           let o = spot-once asked (m .branch) j (b .top) k (spot-above asked (m .branch) (b .top) (m .depth) (b .above) (m .spot)) s (sym (b .place)) in
-          let line = lineOf asked (m .branch) in
+          let line = rowOf asked (m .branch) in
           let reads : part (b .top) (m .depth) line ≡ p =
           simple-word p (part (b .top) (m .depth) line) simp
           (unfill-word fillerElement p (part (b .top) (m .depth) line) clear (member→word p (fill (part (b .top) (m .depth) line)) (subst (λ r. T (member p r)) (b .reads) (h .reached .word)))) in
-          let end : m .depth ≡ k + length p = omega (arith, o .0, ap length reads, part-length (b .top) (m .depth) line (m .spot .onLine), b .above) in
+          let end : m .depth ≡ k + length p = omega (arith, o .0, ap length reads, part-length (b .top) (m .depth) line (m .spot .onRow), b .above) in
           record {
             at = m .branch;
             isBranch = m .spot .isBranch;
@@ -141,7 +141,7 @@ module _ (labels : List Label) (gl : GoodLabels labels) (asked : Key) (g : GoodK
       go p =
           let j = p .branch in
           let k = p .depth in
-          let line = lineOf asked j in
+          let line = rowOf asked j in
           let b = down-spot asked j k (p .spot) (rt .down) (p .place) in
           let i = b .top in
           let si = spot-above asked j i k (b .above) (p .spot) in
@@ -160,7 +160,7 @@ module _ (labels : List Label) (gl : GoodLabels labels) (asked : Key) (g : GoodK
               isBranch = p .spot .isBranch;
               onChain = l;
               above = b .above;
-              onLine = p .spot .onLine;
+              onRow = p .spot .onRow;
               context = subst (λ r. T (member (s .context) r)) (ap (λ a. part a i line) (root .0) ∙ part-zero i line)
                   (unfill-member (s .context) (part (c .top) i line) (context-clear labels inProfile s gs gl) (subst (λ r. T (member (s .context) r)) (c .reads) (rc .word)));
               target = unfill-member (s .target) (part i k line) (target-clear labels inProfile s gs gl) (subst (λ r. T (member (s .target) r)) (b .reads) (rt .word));

@@ -11,7 +11,7 @@ use Rattle.meaning.specs.Rules.{Line, withEmpty}
 use Rattle.meaning.specs.Records.{noKey}
 use Rattle.meaning.specs.Pattern.{tOf}
 use Rattle.theory_derive.specs.Sets.{insert, unite}
-use Rattle.theory_derive.specs.Spots.{Taken, chainOf, branchOf, lineOf, part, holdsEmpty}
+use Rattle.theory_pattern.specs.Spots.{Taken, chainOf, branchOf, rowOf, part, holdsEmpty}
 
 -- a key whose context and target are parts of a line, in normal form
 unfoldable pub keyOf : List ℕ → List ℕ → List (List ℕ) → Key
@@ -33,14 +33,14 @@ above asked i = take i (chainOf asked)
 
 -- from chain node i to the spot, and from it to t. For k ≤ n the latter from k on is F = (C++T)[k..n]
 unfoldable pub toSpot : Key → ℕ → ℕ → ℕ → List ℕ
-toSpot asked i j k = part i k (lineOf asked j)
+toSpot asked i j k = part i k (rowOf asked j)
 
 unfoldable pub toT : Key → ℕ → List ℕ
 toT asked i = drop i (chainOf asked)
 
 -- k > n: P_j = G.H with G = line j [n..k], and this is H
 unfoldable pub belowSpot : Key → ℕ → ℕ → List ℕ
-belowSpot asked j k = drop k (lineOf asked j)
+belowSpot asked j k = drop k (rowOf asked j)
 
 -- (A', (T_s, S_s)) and (A', (norm line j [i..k], S_s))
 unfoldable pub narrowed : Key → Key → ℕ → Key

@@ -15,7 +15,7 @@ use Rattle.meaning.specs.Paths.{Class, Label, element, attribute, text, isEleme
 use Rattle.meaning.specs.Keys.{Key}
 use Rattle.meaning.specs.Refusals
 use Rattle.meaning.specs.Refusals.{goodLabel, isSymbol, goodPath, goodSymbols, goodSet, keyTests, firstOf}
-use Rattle.theory_paths.specs.Bools.{and-left, and-right, or-cases, or-left, or-right, every-each, every-map, any-some, false-of, neqb-of}
+use Rattle.theory_lists.specs.Bools.{and-left, and-right, or-cases, or-left, or-right, every-each, every-map, any-some, false-of, neqb-of}
 use Rattle.theory_paths.specs.Words.{member→word, word→member}
 use Rattle.theory_paths.specs.Valid.{valid-left, valid-right, valid-norm}
 use Rattle.theory_paths.specs.Normal.{join-three}

@@ -7,7 +7,7 @@ use lib.Dec.{T, eqb, eqb·suc-zero}
 use Rattle.meaning.specs.Limits.{fillerElement}
 use Rattle.meaning.specs.Lists.{every, isEmpty}
 use Rattle.meaning.specs.Paths.{Class, Label, declared, isElement, isLabel, classOf, member, valid, Included}
-use Rattle.theory_paths.specs.Bools.{and-left, and-right, both, or-left, or-right, every-head, every-tail, ne-of-neqb}
+use Rattle.theory_lists.specs.Bools.{and-left, and-right, both, or-left, or-right, every-head, every-tail, ne-of-neqb}
 use Rattle.theory_paths.specs.Words.{Word, member→word, word→member, word-trans}
 use Rattle.theory_paths.specs.Valid.{mayStep, valid-put, valid-first, valid-tail}
 

@@ -1,6 +1,4 @@
 -- ARGUMENT §1: one relation, `Word`, does everything. Laws of the definitions of `meaning` (Paths, Lists, Refusals); no definition of 01 stands here.
-pub mod Bools
-pub mod Lists
 pub mod Words
 pub mod Normal
 pub mod Simple

@@ -5,7 +5,7 @@ use mathlib.Core.Bool.{not}
 use mathlib.Core.List.{List, [], _∷_, _++_}
 use lib.Dec.{T, eqb}
 use Rattle.meaning.specs.Paths.{normal, join, simple}
-use Rattle.theory_paths.specs.Bools.{every-append, every-left, every-right, every-head, every-tail}
+use Rattle.theory_lists.specs.Bools.{every-append, every-left, every-right, every-head, every-tail}
 use Rattle.theory_paths.specs.Words.{Word}
 use Rattle.theory_paths.specs.Normal.{norm-of-normal}
 

@@ -8,7 +8,7 @@ use native.Mathlib.Omega.{arith}
 use lib.Dec.{T}
 use Rattle.meaning.specs.Lists.{every}
 use Rattle.meaning.specs.Paths.{Class, isElement, member, normal, norm, simple, valid, SameWords, Endless}
-use Rattle.theory_paths.specs.Bools.{bool-eq, every-cons, neqb-of}
+use Rattle.theory_lists.specs.Bools.{bool-eq, every-cons, neqb-of}
 use Rattle.theory_paths.specs.Words.{Word, member→word, word→member}
 use Rattle.theory_paths.specs.Normal.{normal-tail, word-norm→, word-norm←}
 use Rattle.theory_paths.specs.Inclusion.{fillBy, avoids, fill-word, unfill-word, fill-valid}

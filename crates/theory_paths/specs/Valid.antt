@@ -6,7 +6,7 @@ use mathlib.Core.List.{List, [], _∷_, _++_}
 use lib.Dec.{T, eqb}
 use Rattle.meaning.specs.Lists.{isEmpty, every}
 use Rattle.meaning.specs.Paths.{Class, isElement, norm, valid}
-use Rattle.theory_paths.specs.Bools.{bool-eq, and-left, and-right, both, or-right}
+use Rattle.theory_lists.specs.Bools.{bool-eq, and-left, and-right, both, or-right}
 
 -- a symbol that may stand before another
 unfoldable pub mayStep : (ℕ → Class) → ℕ → Bool

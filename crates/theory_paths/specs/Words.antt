@@ -8,8 +8,8 @@ use mathlib.Core.List.{List, [], _∷_, _++_, append-assoc}
 use lib.Dec.{T, eqb, eqb→eq, eqb-refl}
 use Rattle.meaning.specs.Lists.{isEmpty}
 use Rattle.meaning.specs.Paths.{member, front, anyEnd}
-use Rattle.theory_paths.specs.Bools.{and-left, and-right, both, or-cases, or-left, or-right}
-use Rattle.theory_paths.specs.Lists.{isEmpty-nil}
+use Rattle.theory_lists.specs.Bools.{and-left, and-right, both, or-cases, or-left, or-right}
+use Rattle.theory_lists.specs.Lists.{isEmpty-nil}
 
 -- The run w is a word of the path
 unfoldable pub Word : List ℕ → List ℕ → Type 0

@@ -17,7 +17,7 @@ use Rattle.meaning.specs.Rules.{Line}
 use Rattle.meaning.specs.Records.{recordKind, recordBody, readLabel, keyIn, readNode, readLine}
 use Rattle.meaning.specs.Refusals.{firstOf, tooMany, whole, goodLabel, keyTests, keyTwice, profileKeyTests, Profile, inProfileOrder, profileTests, questionTests, goodRoot, goodBelow, repeated, treeTests, lineTests}
 use Rattle.theory_paths.specs.Good.{GoodKey, good-of-tests}
-use Rattle.theory_paths.specs.Bools.{and-false}
+use Rattle.theory_lists.specs.Bools.{and-false}
 use Rattle.theory_records.specs.Tests.{both, either, never, first-none, first-fails, numbered, first-passes, first-both}
 use Rattle.theory_records.specs.Heads.{Whole, whole-says}
 

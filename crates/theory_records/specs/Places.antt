@@ -14,7 +14,7 @@ use Rattle.meaning.specs.Rules.{Line}
 use Rattle.meaning.specs.Records.{recordLength, recordKind, recordBody, keyIn, readLine}
 use Rattle.meaning.specs.Refusals.{firstOf, firstEntry, profileIn, lineTests, proofWalked}
 use Rattle.meaning.specs.Operations.{recordsFrom, labelsIn, keysIn}
-use Rattle.theory_paths.specs.Bools.{Each-nth}
+use Rattle.theory_lists.specs.Bools.{Each-nth}
 use Rattle.theory_paths.specs.Good.{GoodKey}
 use Rattle.theory_records.specs.Walks.{walk-keeps}
 use Rattle.theory_records.specs.Heads.{Whole}

@@ -15,7 +15,7 @@ use Rattle.meaning.specs.Keys.{Key}
 use Rattle.meaning.specs.Records.{recordLength, recordKind, recordBody, recordBytes, readLabel, labelBytes, keyIn, keyBytes}
 use Rattle.meaning.specs.Refusals.{Refusal, firstRefusal, firstOf, goodLabel, keyTwice, Profile, noProfile, profileTests, profileNext, hasEdition, behindEdition, firstEntry, editionRefusal, profileWalked, profileIn, profileRefusal, oversize, whole, sound}
 use Rattle.meaning.specs.Operations.{labelsIn, keysIn, entriesWritten, editionWritten, profileWritten}
-use Rattle.theory_paths.specs.Bools.{of-true}
+use Rattle.theory_lists.specs.Bools.{of-true}
 use Rattle.theory_paths.specs.Good.{GoodLabels, good-labels-none, good-labels-more, GoodKey}
 use Rattle.theory_records.specs.Walks.{walk-keeps}
 use Rattle.theory_records.specs.Bytes.{Bytes, bytes-drop}

@@ -16,8 +16,8 @@ use Rattle.meaning.specs.Paths.{Class, Label, element, attribute, text, isEleme
 use Rattle.meaning.specs.Trees.{Node, noNode, tableOf, IsTree, Child, Once}
 use Rattle.meaning.specs.Records.{word, number, valueBytes, recordLength, recordKind, recordBody, readNode, nodeBytes}
 use Rattle.meaning.specs.Refusals.{sound, firstOf, goodRoot, goodBelow, repeated, nodeKindIn, treeTests, treeWalked, nodesIn, treeRefusal}
-use Rattle.theory_paths.specs.Bools
-use Rattle.theory_paths.specs.Bools.{of-true, true-of, eqb-of, or-left, or-right}
+use Rattle.theory_lists.specs.Bools
+use Rattle.theory_lists.specs.Bools.{of-true, true-of, eqb-of, or-left, or-right}
 use Rattle.theory_paths.specs.Good.{GoodLabels, declared-between}
 use Rattle.theory_records.specs.Tests.{both, either, never}
 use Rattle.theory_records.specs.Walks.{Stopped, walk-keeps}
@@ -373,13 +373,13 @@ pub tree-once : (second : Bool) (labels : List Label) (bytes : List ℕ) → tre
 tree-once second labels bytes e = nodes-once _ _ (tree-accepts second labels bytes e .once)
 
 -- the bytes of a tree are the encodings of its nodes
-pub record TreeWritten (kind : ℕ) (bytes : List ℕ) (n : ℕ) (nodes : List Node) (rest : List ℕ) : Type 0 where
+pub record NodesBefore (kind : ℕ) (bytes : List ℕ) (n : ℕ) (nodes : List Node) (rest : List ℕ) : Type 0 where
   pub small : Bytes rest
   pub are : flatten (map (nodeBytes kind) nodes) ++ rest ≡ bytes
 
 tree-written-kept : (second : Bool) {kind : ℕ} → IsNodeKind kind → (labels : List Label) (bytes : List ℕ) (n : ℕ) (nodes : List Node) (l : List ℕ)
-    → TreeWritten kind bytes n nodes l → 0 < length l → firstOf (treeTests second kind labels nodes l) ≡ 0
-    → TreeWritten kind bytes (suc n) (nodes ++ (readNode (recordBody l) ∷ [])) (drop (recordLength l) l)
+    → NodesBefore kind bytes n nodes l → 0 < length l → firstOf (treeTests second kind labels nodes l) ≡ 0
+    → NodesBefore kind bytes (suc n) (nodes ++ (readNode (recordBody l) ∷ [])) (drop (recordLength l) l)
 tree-written-kept second {kind} isNode labels bytes n nodes l g h e =
     let a = node-accepted second kind labels nodes l e in
     record {
@@ -397,7 +397,7 @@ tree-written second labels bytes small e =
     let two = refusal-none _ _ (one .1) in
     let w =
     walk-keeps (treeTests second (nodeKindIn bytes) labels) (λ (nodes : List Node) (l : List ℕ). nodes ++ (readNode (recordBody l) ∷ []))
-    (TreeWritten (nodeKindIn bytes) bytes)
+    (NodesBefore (nodeKindIn bytes) bytes)
     (tree-long second (nodeKindIn bytes) labels)
     (tree-written-kept second (kind-in bytes) labels bytes)
     0

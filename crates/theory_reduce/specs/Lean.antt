@@ -10,7 +10,7 @@ use Rattle.meaning.specs.Paths.{Class, Label, Agrees, singles}
 use Rattle.meaning.specs.Trees.{Table, IsTree, Once}
 use Rattle.meaning.specs.Keys.{Key, Keeps, Implied}
 use Rattle.meaning.specs.Reduction.{staying, Reduction, noneLeft, drops, keeps}
-use Rattle.theory_paths.specs.Lists.{each-append}
+use Rattle.theory_lists.specs.Lists.{each-append}
 
 each-left : {A : Type 0} {Q : A → Type 0} (xs ys : List A) → Each Q (xs ++ ys) → Each Q xs
 each-left [] ys e = end

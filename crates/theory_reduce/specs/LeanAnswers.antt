@@ -10,29 +10,15 @@ use lib.ListN.{length, getElem?}
 use Rattle.meaning.specs.Keys.{Key}
 use Rattle.meaning.specs.Records.{keyBytes}
 use Rattle.meaning.specs.Refusals.{Refusal, firstRefusal, answerRefusal, profileRefusal, questionRefusal}
-use Rattle.meaning.specs.Operations.{Answer, Verdict, Unless, choose, refusedBy, filled, refused, implied, reduced, dropProved, Decides, secondIn, labelsIn, keysIn, ProofWritten, TreeWritten}
+use Rattle.meaning.specs.Operations.{Answer, Verdict, choose, refusedBy, filled, refused, implied, reduced, dropProved, Decides, secondIn, labelsIn, keysIn, ProofWritten, TreeWritten}
 use Rattle.meaning.specs.Reduction.{Reduction, leanProfile, droppedNumbers, reduceRefusals, Reduces, DropProved, NotDropped, ProvesDropped}
-use Rattle.theory_answers.specs.Refusing.{unless-sound, unless-refused, unless-small, first-sound, first-passes, first-stops, sound-more, sound-end, answer-small, answer-large, profile-settled, first-named}
+use Rattle.theory_answers.specs.Refusing.{choose-refused, unless-says, unless-sound, unless-refused, unless-small, first-sound, first-passes, first-stops, sound-more, sound-end, answer-small, answer-large, profile-settled, first-named}
 use Rattle.theory_reduce.specs.LeanProfile.{lean-accepted, dropped-asked, dropped-implied}
-
-choose-other : (n : ℕ) (Q R : Type 0) → (n ≡ 0 → ⊥) → R → choose n Q R
-unfolding choose
-choose-other zero Q R h r = absurd (h refl)
-choose-other (suc n) Q R h r = r
 
 choose-sound : (n : ℕ) (Q R : Type 0) → n ≡ 0 → Q → choose n Q R
 unfolding choose
 choose-sound zero Q R h q = q
 choose-sound (suc n) Q R h q = absurd (omega arith)
-
-unless-says : (rs : List Refusal) (buffer : List ℕ) (Q : Answer → Type 0) (answer : Answer) → firstRefusal rs .number ≡ 0 → Unless rs buffer Q answer
-    → Q answer
-unfolding Unless choose
-unless-says rs buffer Q answer e = go (firstRefusal rs .number) e
-  where
-    go : (n : ℕ) → n ≡ 0 → choose n (Q answer) (answer ≡ refusedBy (firstRefusal rs) buffer) → Q answer
-    go zero z q = q
-    go (suc n) z q = absurd (omega arith)
 
 refused-implied : refused ≡ implied → ⊥
 refused-implied e = let z : _≡_ {A = ℕ} 0 1 = cc in omega arith
@@ -42,7 +28,7 @@ module _ (profile buffer : List ℕ) where
   by-first : (r : Refusal) → firstRefusal (reduceRefusals profile buffer) ≡ r → 0 < r .input → Reduces profile buffer (refusedBy r buffer) []
   unfolding Reduces
   by-first r e named =
-      choose-other (firstRefusal (reduceRefusals profile buffer) .number) _ _
+      choose-refused (firstRefusal (reduceRefusals profile buffer) .number) _ _
       (λ z. let i : r .input ≡ 0 = ap (λ (x : Refusal). x .input) (sym e ∙ first-sound (reduceRefusals profile buffer) z) in omega arith)
       (ap (λ (x : Refusal). refusedBy x buffer) (sym e), refl)
 

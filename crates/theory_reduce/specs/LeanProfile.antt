@@ -19,7 +19,7 @@ use Rattle.meaning.specs.Operations.{secondIn, labelsIn, keysIn}
 use Rattle.meaning.specs.Operations.{entriesWritten, editionWritten, profileWritten}
 use Rattle.meaning.specs.Reduction.{staying, Reduction, leanProfile}
 use Rattle.theory_paths.specs.Good.{GoodKey}
-use Rattle.theory_paths.specs.Bools.{Each-nth}
+use Rattle.theory_lists.specs.Bools.{Each-nth}
 use Rattle.theory_records.specs.Tests.{both}
 use Rattle.theory_records.specs.Walks.{walk-keeps}
 use Rattle.theory_records.specs.Heads.{Whole, whole-says, body-length}
@@ -30,7 +30,7 @@ use Rattle.theory_records.specs.Profiles.{flat-more, next-label, next-key, prof
 use Rattle.theory_records.specs.WrittenInputs.{question-written-sound, question-in-written}
 use Rattle.theory_records.specs.WrittenProfiles.{ProfileFits, profile-walked-written, profile-written-sound, profile-in-written}
 use Rattle.theory_reduce.specs.Lean.{final-implies}
-use Rattle.theory_reduce.specs.Parts.{staying-different}
+use Rattle.theory_reduce.specs.StayingKeys.{staying-different}
 
 -- how many bytes a record has, written, which was read
 label-size : (l : List ℕ) → Whole l → (e : 2 ≤ length (recordBody l)) → length (labelBytes (readLabel (recordBody l))) ≡ recordLength l

@@ -1,5 +1,5 @@
 pub mod Lean
-pub mod Parts
+pub mod StayingKeys
 pub mod LeanProfile
 pub mod LeanAgain
 pub mod LeanUnique

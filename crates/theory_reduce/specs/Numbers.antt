@@ -9,7 +9,8 @@ use lib.ListN.{length, getD, getElem?, take, set, replicate, length-append, leng
 use lib.Seq.{append-snoc, set-at, take-at, getD-take, length-take-le}
 use Rattle.meaning.specs.Lists.{keep, numbers}
 use Rattle.meaning.specs.Reduction.{droppedNumbers}
-use Rattle.theory_reduce.specs.Parts.{dropped-next}
+use Rattle.theory_lists.specs.Lists.{at-getD}
+use Rattle.theory_reduce.specs.StayingKeys.{dropped-next}
 
 pub record Listed (array : List ℕ) (count : ℕ) (v : List ℕ) : Type 0 where
   pub counted : count ≡ length v
@@ -89,11 +90,6 @@ unfolding droppedBelow droppedNumbers
 below-all stays k room = ap (droppedBelow (take k stays)) (sym (length-take-le k stays room))
 
 -- whether key n is dropped
-at-some : {A : Type 0} (l : List A) (n : ℕ) (d : A) → n < length l → getElem? l n ≡ some (getD l n d)
-at-some [] n d h = absurd (omega arith)
-at-some (x ∷ l) zero d h = refl
-at-some (x ∷ l) (suc n) d h = at-some l n d (omega arith)
-
 at-none : {A : Type 0} (l : List A) (n : ℕ) → length l ≤ n → getElem? l n ≡ none
 at-none [] n h = refl
 at-none (x ∷ l) zero h = absurd (omega arith)
@@ -106,7 +102,7 @@ flag-beyond stays k n h e =
 module _ (stays : List Bool) (k n : ℕ) (below : n < k) (room : k ≤ length stays) where
   flag-at : getElem? (take k stays) n ≡ some (getD stays n false)
   flag-at =
-      at-some (take k stays) n true (omega (arith, length-take k stays)) ∙ ap some (flag-is stays k n below room)
+      at-getD (take k stays) n true (omega (arith, length-take k stays)) ∙ ap some (flag-is stays k n below room)
 
   pub flag-gone : getD stays n false ≡ false → getElem? (take k stays) n ≡ some false
   flag-gone e = flag-at ∙ ap some e

@@ -1,5 +1,3 @@
 pub mod Bench
-pub mod Words
-pub mod Written
 pub mod StepTests
 pub mod Steps

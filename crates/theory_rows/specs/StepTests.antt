@@ -12,7 +12,7 @@ use Rattle.meaning.specs.Lists.{Each, every, any, numbers}
 use Rattle.meaning.specs.Trees.{Table, Down, here, step, Reached}
 use Rattle.meaning.specs.Keys.{Key}
 use Rattle.meaning.specs.Pattern.{pattern, marked, qOf, tOf, Lands, Step, toChild, toParent, byKey, Leads, arrived, onward}
-use Rattle.theory_paths.specs.Bools.{and-left, and-right, both, or-cases, or-left, or-right, eqb-of, every-each, each-every, any-some, some-any, Each-at, Each-of}
+use Rattle.theory_lists.specs.Bools.{and-left, and-right, both, or-cases, or-left, or-right, eqb-of, every-each, each-every, any-some, some-any, Each-at, Each-of}
 use Rattle.theory_trees.specs.Below.{ParentsSmaller, down-inside}
 use Rattle.theory_trees.specs.Children.{mem-numbers}
 use Rattle.theory_trees.specs.Climb.{reaches, reaches-sound, reaches-complete}

@@ -11,7 +11,7 @@ use Rattle.meaning.specs.Paths.{member, front, anyEnd, singles, classOf}
 use Rattle.meaning.specs.Trees.{tableOf}
 use Rattle.meaning.specs.Pattern
 use Rattle.meaning.specs.Pattern.{qOf, tOf, Leads}
-use Rattle.theory_paths.specs.Bools.{and-left, and-right}
+use Rattle.theory_lists.specs.Bools.{and-left, and-right}
 use Rattle.theory_trees.specs.Climb.{reaches, reachesFrom}
 use Rattle.theory_rows.specs.Bench.{Row, bench, rows}
 use Rattle.theory_rows.specs.StepTests.{Hop, route, border, landsTest, keyTest, upTest, stepTest, parentsTest, route-leads, border-holds}

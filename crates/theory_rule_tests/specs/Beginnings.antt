@@ -5,7 +5,7 @@ use mathlib.Core.Bool.{Bool, true, false, _&&_}
 use mathlib.Core.List.{List, [], _∷_, _++_}
 use lib.Dec.{T, eqb, eqb→eq, eqb-refl}
 use lib.ListN.{length, drop}
-use Rattle.theory_paths.specs.Bools.{and-left, and-right, both}
+use Rattle.theory_lists.specs.Bools.{and-left, and-right, both}
 
 unfoldable pub begins : List ℕ → List ℕ → Bool
 begins [] p = true

@@ -14,7 +14,7 @@ use Rattle.meaning.specs.Lists.{same}
 use Rattle.meaning.specs.Paths.{Label, norm, normal, join}
 use Rattle.meaning.specs.Keys.{Key}
 use Rattle.meaning.specs.Rules.{ContextTarget}
-use Rattle.theory_paths.specs.Bools.{and-left, and-right, both, or-cases, or-left, or-right, same-eq, eq-same}
+use Rattle.theory_lists.specs.Bools.{and-left, and-right, both, or-cases, or-left, or-right, same-eq, eq-same}
 use Rattle.theory_paths.specs.Normal.{norm-normal, norm-of-normal, norm-append-left, norm-append-right, norm-doubled}
 use Rattle.theory_paths.specs.Good
 use Rattle.theory_paths.specs.Good.{GoodKey}

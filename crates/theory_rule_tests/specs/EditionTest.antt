@@ -10,7 +10,7 @@ use Rattle.meaning.specs.Lists.{Each}
 use Rattle.meaning.specs.Paths.{Label}
 use Rattle.meaning.specs.Keys.{Key}
 use Rattle.meaning.specs.Rules.{Line, OneAttribute, FollowsIn, shared, rule10}
-use Rattle.theory_paths.specs.Bools.{and-left, and-right, both, eqb-of}
+use Rattle.theory_lists.specs.Bools.{and-left, and-right, both, eqb-of}
 use Rattle.theory_paths.specs.Good.{GoodLabels, GoodKey}
 use Rattle.theory_rule_tests.specs.LineTest.{unused, ruleTest, followsTest, test-follows, follows-test}
 

@@ -9,7 +9,7 @@ use Rattle.meaning.specs.Lists.{same}
 use Rattle.meaning.specs.Paths.{Label, simple, join}
 use Rattle.meaning.specs.Keys.{Key}
 use Rattle.meaning.specs.Rules.{Interaction}
-use Rattle.theory_paths.specs.Bools.{and-left, and-right, both, same-eq, eq-same}
+use Rattle.theory_lists.specs.Bools.{and-left, and-right, both, same-eq, eq-same}
 use Rattle.theory_paths.specs.Simple.{join-simple, join-simples}
 use Rattle.theory_paths.specs.Good
 use Rattle.theory_paths.specs.Good.{GoodKey}

@@ -11,9 +11,9 @@ use Rattle.meaning.specs.Lists.{Each, isEmpty, same}
 use Rattle.meaning.specs.Paths.{Label}
 use Rattle.meaning.specs.Keys.{Key}
 use Rattle.meaning.specs.Rules.{Line, Epsilon, Follows, rule0, rule1, rule2, rule3, rule4, rule5, rule6, rule7, rule8, rule9}
-use Rattle.theory_paths.specs.Bools.{and-left, and-right, both, same-eq, eq-same, eqb-of, Each-nth}
+use Rattle.theory_lists.specs.Bools.{and-left, and-right, both, same-eq, eq-same, eqb-of, Each-nth}
 use Rattle.theory_paths.specs.Good.{GoodLabels, GoodKey}
-use Rattle.theory_paths.specs.Lists.{isEmpty-nil}
+use Rattle.theory_lists.specs.Lists.{isEmpty-nil}
 use Rattle.theory_rule_tests.specs.SameParts
 use Rattle.theory_rule_tests.specs.SameParts.{sameSets, sets-eq, eq-sets, prefixEpsilonTest, superkeyTest, contextPathTest, targetPathTest}
 use Rattle.theory_rule_tests.specs.Subnodes

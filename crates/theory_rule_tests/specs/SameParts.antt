@@ -10,10 +10,10 @@ use Rattle.meaning.specs.Lists.{every, any, isEmpty, same}
 use Rattle.meaning.specs.Paths.{Label, member, Included}
 use Rattle.meaning.specs.Keys.{Key}
 use Rattle.meaning.specs.Rules.{BeginsSome, PrefixEpsilon, Superkey, ContextPath, TargetPath}
-use Rattle.theory_paths.specs.Bools.{and-left, and-right, both, every-each, each-every, any-some, some-any, Each-at, Each-of, same-eq, eq-same}
+use Rattle.theory_lists.specs.Bools.{and-left, and-right, both, every-each, each-every, any-some, some-any, Each-at, Each-of, same-eq, eq-same}
 use Rattle.theory_paths.specs.Good
 use Rattle.theory_paths.specs.Good.{GoodLabels, GoodKey, included-good}
-use Rattle.theory_paths.specs.Lists.{isEmpty-nil}
+use Rattle.theory_lists.specs.Lists.{isEmpty-nil}
 use Rattle.theory_rule_tests.specs.Beginnings.{begins, begins-split, begins-append}
 
 unfoldable pub sameContext : Key → Key → Bool

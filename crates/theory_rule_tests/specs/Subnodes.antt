@@ -11,11 +11,11 @@ use Rattle.meaning.specs.Lists.{same}
 use Rattle.meaning.specs.Paths.{Label, simple, join}
 use Rattle.meaning.specs.Keys.{Key}
 use Rattle.meaning.specs.Rules.{Subnodes, SubnodesEpsilon, withEmpty}
-use Rattle.theory_paths.specs.Bools.{and-left, and-right, both, same-eq, eq-same}
+use Rattle.theory_lists.specs.Bools.{and-left, and-right, both, same-eq, eq-same}
 use Rattle.theory_paths.specs.Simple.{join-simple, join-simples}
 use Rattle.theory_paths.specs.Good
 use Rattle.theory_paths.specs.Good.{GoodKey}
-use Rattle.theory_paths.specs.Lists.{with-empty-path, with-empty-last}
+use Rattle.theory_lists.specs.Lists.{with-empty-path, with-empty-last}
 use Rattle.theory_rule_tests.specs.Beginnings.{begins, begins-split, begins-append}
 use Rattle.theory_rule_tests.specs.SameParts.{sameContext, sameSets, sets-eq, eq-sets}
 

@@ -16,7 +16,7 @@ use Rattle.meaning.specs.Keys.{Key, Keeps, Implied}
 use Rattle.meaning.specs.Rules.{Line, Follows, rule0, rule1, rule2, rule3, rule4, rule5, rule6, rule7, rule8, rule9, FollowsIn, shared, rule10, lineKeys, FollowsBelow, EndsWith, Accepted}
 use Rattle.theory_paths.specs.Words.{Word, member→word}
 use Rattle.theory_paths.specs.Good.{GoodLabels, GoodKey, included-good, context-symbols, target-symbols, valid-context, valid-target}
-use Rattle.theory_paths.specs.Lists.{map-append, each-append}
+use Rattle.theory_lists.specs.Lists.{map-append, each-append}
 use Rattle.theory_rules.specs.Single.{single-kept}
 use Rattle.theory_rules.specs.Rules.{epsilon-kept, superkey-kept, context-kept, target-kept, context-target-kept, subnodes-kept, interaction-kept, prefix-epsilon-kept, subnodes-epsilon-kept}
 

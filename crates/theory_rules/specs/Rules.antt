@@ -9,9 +9,9 @@ use Rattle.meaning.specs.Paths.{Class, join}
 use Rattle.meaning.specs.Trees.{Table, IsTree, Reached, Equal}
 use Rattle.meaning.specs.Keys.{Breaks, Key, EqualPair, Keeps}
 use Rattle.meaning.specs.Rules.{Epsilon, PrefixEpsilon, Superkey, Subnodes, ContextTarget, SubnodesEpsilon, Interaction}
-use Rattle.theory_paths.specs.Bools.{Each-at, Each-of}
+use Rattle.theory_lists.specs.Bools.{Each-at, Each-of}
 use Rattle.theory_paths.specs.Words.{Word}
-use Rattle.theory_paths.specs.Lists.{with-empty-empty, with-empty-path, with-empty-each}
+use Rattle.theory_lists.specs.Lists.{with-empty-empty, with-empty-path, with-empty-each}
 use Rattle.theory_trees.specs.Reach.{reached-empty, reached-self, reached-append, reached-split, reached-append-split, reached-wider, reached-rigid, equal-reached}
 
 -- a node reached by one path is reached by the path that is the same

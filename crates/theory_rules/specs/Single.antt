@@ -11,7 +11,7 @@ use Rattle.meaning.specs.Paths.{Class, isAttribute, Label, declared, classOf, i
 use Rattle.meaning.specs.Trees.{Table, Child, Once, Down, here, step, Reached}
 use Rattle.meaning.specs.Keys.{Key, Keeps}
 use Rattle.meaning.specs.Rules.{OneAttribute}
-use Rattle.theory_paths.specs.Bools.{and-left, and-right, both, or-left, or-right, T-cases, eqb-of, neqb-of}
+use Rattle.theory_lists.specs.Bools.{and-left, and-right, both, or-left, or-right, T-cases, eqb-of, neqb-of}
 use Rattle.theory_paths.specs.Good.{GoodLabels, undeclared-class, undeclared-low}
 use Rattle.theory_trees.specs.Reach.{reached-down}
 

@@ -12,7 +12,7 @@ use Rattle.meaning.specs.Lists.{Each, every, any, keep, numbers}
 use Rattle.meaning.specs.Paths.{Class}
 use Rattle.meaning.specs.Trees.{Table, IsTree, Reached}
 use Rattle.meaning.specs.Keys.{Key, EqualPair, Breaks}
-use Rattle.theory_paths.specs.Bools.{every-each, each-every, any-some, some-any, Each-at, Each-of}
+use Rattle.theory_lists.specs.Bools.{every-each, each-every, any-some, some-any, Each-at, Each-of}
 use Rattle.theory_trees.specs.Below.{ParentsSmaller, tree-smaller}
 use Rattle.theory_trees.specs.Children.{keep-mem, mem-keep, mem-numbers}
 use Rattle.theory_trees.specs.Climb.{reaches, reaches-sound, reaches-complete, T-dec}

@@ -10,7 +10,7 @@ use lib.Dec.{T, eqb, eqb→eq, eqb-refl}
 use Rattle.meaning.specs.Lists.{keep, numbers}
 use Rattle.meaning.specs.Paths.{Class, isAttribute}
 use Rattle.meaning.specs.Trees.{Table, Child, attributes, others}
-use Rattle.theory_paths.specs.Bools.{and-left, and-right, both}
+use Rattle.theory_lists.specs.Bools.{and-left, and-right, both}
 
 -- `keep` holds those members that pass the test
 module _ {A : Type 0} (f : A → Bool) where

@@ -10,7 +10,7 @@ use borrow.Author.Tests.{eqb-true, eq-eqb, ne-eqb, lt-ltb}
 use lib.ListN.{length}
 use Rattle.meaning.specs.Paths.{member}
 use Rattle.meaning.specs.Trees.{Table, Child, Down, here, step, Reached}
-use Rattle.theory_paths.specs.Bools.{and-left, and-right}
+use Rattle.theory_lists.specs.Bools.{and-left, and-right}
 use Rattle.theory_trees.specs.Below.{ParentsSmaller, down-greater, down-from}
 
 -- The last label of a run, and the run before it

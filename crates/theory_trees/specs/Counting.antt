@@ -9,7 +9,7 @@ use lib.ListN.{length}
 use Rattle.meaning.specs.Lists.{every}
 use Rattle.meaning.specs.Paths.{Class, element, attribute, text, isElement, isAttribute}
 use Rattle.meaning.specs.Trees.{Table, Equal, leaves, elements, EqualSets, matched, EqualLists, ended, paired}
-use Rattle.theory_paths.specs.Bools.{and-left, and-right, both, eqb-of, true-of, every-each, each-every}
+use Rattle.theory_lists.specs.Bools.{and-left, and-right, both, eqb-of, true-of, every-each, each-every}
 use Rattle.theory_trees.specs.Matching.{oneIf, countOf, perm-count, perm-length, Picked, pick}
 
 -- two leaves of one label and one value

@@ -8,7 +8,7 @@ use native.Mathlib.Decide.{map-dec}
 use lib.Dec.{T, eqb, eqb→eq}
 use Rattle.meaning.specs.Paths.{Class, isElement}
 use Rattle.meaning.specs.Trees.{Table, Child, attributes, others, Equal, leaves, elements, EqualLists, ended, paired}
-use Rattle.theory_paths.specs.Bools.{eqb-of}
+use Rattle.theory_lists.specs.Bools.{eqb-of}
 use Rattle.theory_trees.specs.Below.{ParentsSmaller, child-greater}
 use Rattle.theory_trees.specs.Children.{attribute-child, other-child}
 use Rattle.theory_trees.specs.Counting.{sameCounts, counts-sets, sets-counts}

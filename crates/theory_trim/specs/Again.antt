@@ -12,9 +12,10 @@ use Rattle.meaning.specs.Paths.{Label}
 use Rattle.meaning.specs.Keys.{Key}
 use Rattle.meaning.specs.Rules.{Line, EndsWith, Accepted, lineKeys}
 use Rattle.meaning.specs.Trimming.{earliest, pointed, withPremises, premises, noLine, lineAt, needed, placeIn, trimmedLines}
-use Rattle.theory_derive.specs.Logic.{found-below}
+use Rattle.theory_lists.specs.Logic.{found-below}
 use Rattle.theory_derive.specs.Accept.{line-keys-length}
-use Rattle.theory_trim.specs.Numbered.{at-getD, getD-is, mem-map, rising-all, place-numbers, at-numbers}
+use Rattle.theory_lists.specs.Lists.{at-getD}
+use Rattle.theory_trim.specs.Numbered.{getD-is, mem-map, rising-all, place-numbers, at-numbers}
 use Rattle.theory_trim.specs.Firsts.{pointed-stands}
 use Rattle.theory_trim.specs.Needs.{wants, needs-wanted, needs-closed}
 use Rattle.theory_trim.specs.Premises.{unchanged}

@@ -11,7 +11,7 @@ use lib.ListN.{length, length-append}
 use Rattle.meaning.specs.Lists.{any}
 use Rattle.meaning.specs.Rules.{Line}
 use Rattle.meaning.specs.Trimming.{pointed, premises, lineAt, neededBelow}
-use Rattle.theory_paths.specs.Bools.{of-true, of-false, any-some, some-any, eqb-of}
+use Rattle.theory_lists.specs.Bools.{of-true, of-false, any-some, some-any, eqb-of}
 use Rattle.theory_trim.specs.Numbered.{Rising, risen, rising-more}
 
 -- the lines that a line points to

@@ -11,14 +11,9 @@ use borrow.Author.Tests.{eqb-true, eqb-false}
 use lib.ListN.{length, getD, take, getElem?}
 use Rattle.meaning.specs.Lists.{numbers}
 use Rattle.meaning.specs.Trimming.{placeIn}
-use Rattle.theory_derive.specs.Logic.{found-mem}
+use Rattle.theory_lists.specs.Logic.{found-mem}
 
 module _ {A : Type 0} where
-  pub at-getD : (xs : List A) (n : ℕ) (d : A) → n < length xs → getElem? xs n ≡ some (getD xs n d)
-  at-getD [] n d h = absurd (let z : n < 0 = h in omega arith)
-  at-getD (y ∷ xs) zero d h = refl
-  at-getD (y ∷ xs) (suc n) d h = at-getD xs n d (let z : suc n < suc (length xs) = h in omega arith)
-
   pub getD-is : (xs : List A) (n : ℕ) (d : A) {x : A} → getElem? xs n ≡ some x → getD xs n d ≡ x
   getD-is [] n d e = absurd (Option·none-ne-some _ e)
   getD-is (y ∷ xs) zero d e = Option·some-injective _ _ e

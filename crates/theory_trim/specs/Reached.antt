@@ -13,7 +13,7 @@ use Rattle.meaning.specs.Paths.{Label}
 use Rattle.meaning.specs.Keys.{Key}
 use Rattle.meaning.specs.Rules.{Line, Accepted, lineKeys}
 use Rattle.meaning.specs.Trimming.{earliest, pointed, premises, lineAt, needed, trimmedLines}
-use Rattle.theory_derive.specs.Logic.{found-below}
+use Rattle.theory_lists.specs.Logic.{found-below}
 use Rattle.theory_trim.specs.Numbered.{map-mem}
 use Rattle.theory_trim.specs.Needs.{wants, WantedBy, needs-below, needs-wanted, needs-why}
 use Rattle.theory_trim.specs.Trimmed.{UsedLater, stay-needs, pointed-stays, trimmed-used}

@@ -12,9 +12,10 @@ use Rattle.meaning.specs.Keys.{Key}
 use Rattle.meaning.specs.Rules.{Line, FollowsIn, FollowsBelow, EndsWith, Accepted, lineKeys}
 use Rattle.meaning.specs.Trimming.{earliest, pointed, withPremises, withoutPremise, premises, noLine, lineAt, needed, placeIn, trimmedLines}
 use Rattle.theory_records.specs.Places.{at-seam}
-use Rattle.theory_derive.specs.Logic.{found-below, found-mem}
+use Rattle.theory_lists.specs.Logic.{found-below, found-mem}
 use Rattle.theory_derive.specs.Accept.{line-keys-length}
-use Rattle.theory_trim.specs.Numbered.{at-getD, at-take, take-below, same-at, at-map, map-at, mem-map, map-mem, Rising, rising-order, rising-once, place-stands, place-is}
+use Rattle.theory_lists.specs.Lists.{at-getD}
+use Rattle.theory_trim.specs.Numbered.{at-take, take-below, same-at, at-map, map-at, mem-map, map-mem, Rising, rising-order, rising-once, place-stands, place-is}
 use Rattle.theory_trim.specs.Firsts.{earliest-is, pointed-is, pointed-within, pointed-stands, pointed-again}
 use Rattle.theory_trim.specs.Needs.{wants, Needs, needs, WantedBy, LastStays, needs-below, needs-rising, needs-closed, needs-why, needs-last}
 use Rattle.theory_trim.specs.Premises.{stays-so, rule-stays, key-stays, premises-changed, premise-stands}

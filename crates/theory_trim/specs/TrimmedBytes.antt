@@ -18,7 +18,7 @@ use Rattle.meaning.specs.Refusals.{Refusal, Walked, firstOf, lineTests, firstRe
 use Rattle.meaning.specs.Operations.{Answer, Unless, choose, refusedBy, plain, accepted, singleIn, labelsIn, keysIn, ChecksProof, ProofJudged, unfollowed, faulty, otherEnd, proved}
 use Rattle.meaning.specs.Trimming.{earliest, pointed, withPremises, noLine, lineAt, needed, placeIn, trimmedLines, linesIn, trimmedProof, trimAnswer, Trims}
 use Rattle.theory_paths.specs.Good.{GoodKey}
-use Rattle.theory_paths.specs.Bools.{Each-at}
+use Rattle.theory_lists.specs.Bools.{Each-at}
 use Rattle.theory_records.specs.Walks.{walk-keeps}
 use Rattle.theory_records.specs.Heads.{Whole, body-length}
 use Rattle.theory_records.specs.KeyBodies.{key-in-written}
@@ -29,7 +29,7 @@ use Rattle.theory_records.specs.Questions.{lines-long, lines-at-stop}
 use Rattle.theory_records.specs.WrittenInputs.{LineFits, proof-walked-written}
 use Rattle.theory_answers.specs.Refusing.{unless-sound, sound-more, sound-end, fits-size}
 use Rattle.theory_answers.specs.Unique.{unless-unique, checks-proof-unique}
-use Rattle.theory_derive.specs.Logic.{found-below, found-mem}
+use Rattle.theory_lists.specs.Logic.{found-below, found-mem}
 use Rattle.theory_derive.specs.Accept.{line-keys-length}
 use Rattle.theory_trim.specs.Needs.{Needs, noLine as noneThere, stays, goes, needs-few}
 use Rattle.theory_trim.specs.Premises.{key-stays}

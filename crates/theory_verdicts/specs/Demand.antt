@@ -72,7 +72,7 @@ use Rattle.theory_records.specs.TreeFiles.{tree-is-tree, tree-once}
 use Rattle.theory_rules.specs.Accepted.{accepted-implied}
 use Rattle.theory_counter.specs.Counterexample.{class-agrees}
 use Rattle.theory_trees.specs.Witness.{shows-breaks}
-use Rattle.theory_answers.specs.Refusing.{sound-more, sound-end, answer-large}
+use Rattle.theory_answers.specs.Refusing.{unless-says, sound-more, sound-end, answer-large}
 use Rattle.theory_decide.specs.NotImplied.{tree-bytes, tree-most}
 
 -- the verdicts that tell answers apart
@@ -124,10 +124,6 @@ not-refused e = subst (λ (v : Verdict). T (isRefused v)) e tt
 
 -- ---- what an answer says where nothing is refused
 
-passed-says : (rs : List Refusal) (buffer : List ℕ) (Q : Answer → Type 0) (answer : Answer) → firstRefusal rs .number ≡ 0 → Unless rs buffer Q answer → Q answer
-unfolding Unless choose
-passed-says rs buffer Q answer e u = subst (λ (n : ℕ). choose n (Q answer) (answer ≡ refusedBy (firstRefusal rs) buffer)) e u
-
 -- an answer that accepts refuses nothing
 accepted-passes : (rs : List Refusal) (Q : Answer → Type 0) (answer : Answer) → answer .verdict ≡ accepted → Unless rs [] Q answer
     → firstRefusal rs .number ≡ 0
@@ -139,19 +135,19 @@ accepted-passes rs Q answer says u = go (firstRefusal rs .number) u
     go (suc n) e = absurd (not-refused (sym (ap (λ (a : Answer). a .verdict) e) ∙ says))
 
 accepted-says : (rs : List Refusal) (Q : Answer → Type 0) (answer : Answer) → answer .verdict ≡ accepted → Unless rs [] Q answer → Q answer
-accepted-says rs Q answer says u = passed-says rs [] Q answer (accepted-passes rs Q answer says u) u
+accepted-says rs Q answer says u = unless-says rs [] Q answer (accepted-passes rs Q answer says u) u
 
 -- ---- the verdict
 
 module _ (profile question buffer : List ℕ) (room : 65536 ≤ length buffer) (soundProfile : profileRefusal profile .number ≡ 0)
     (soundQuestion : questionRefusal (labelsIn profile) question .number ≡ 0) (answer : Answer) (decides : Decides profile question buffer answer) where
-  abbrev Asked : Type 0
-  Asked = Implied (secondIn profile) (labelsIn profile) (keysIn profile) (questionIn question)
+  abbrev KeyFollows : Type 0
+  KeyFollows = Implied (secondIn profile) (labelsIn profile) (keysIn profile) (questionIn question)
 
   -- "Each with its evidence": one of the two
   pub evidence : ProofWritten profile question buffer answer ⊎ TreeWritten profile question buffer answer
   unfolding Decides
-  evidence = passed-says _ buffer _ answer passes decides
+  evidence = unless-says _ buffer _ answer passes decides
     where
       passes : firstRefusal (answerRefusal buffer ∷ profileRefusal profile ∷ questionRefusal (labelsIn profile) question ∷ []) .number ≡ 0
       passes = sound-more _ _ (answer-large buffer room) (sound-more _ _ soundProfile (sound-more _ _ soundQuestion sound-end))
@@ -165,17 +161,17 @@ module _ (profile question buffer : List ℕ) (room : 65536 ≤ length buffer) (
   tree-says t = ap (λ (a : Answer). a .verdict) (t .answered)
 
   -- "implied" exactly when every tree that keeps the profile keeps the key
-  pub implied-true : answer .verdict ≡ implied → Asked
+  pub implied-true : answer .verdict ≡ implied → KeyFollows
   implied-true e = ⊎-elim (λ p. p .holds) (λ t. absurd (not-other (sym e ∙ tree-says t))) evidence
 
-  pub implied-said : Asked → answer .verdict ≡ implied
+  pub implied-said : KeyFollows → answer .verdict ≡ implied
   implied-said h = ⊎-elim proof-says (λ t. absurd (t .fails h)) evidence
 
   -- "else not implied"
-  pub not-implied-true : answer .verdict ≡ notImplied → Asked → ⊥
+  pub not-implied-true : answer .verdict ≡ notImplied → KeyFollows → ⊥
   not-implied-true e h = not-other (sym (implied-said h) ∙ e)
 
-  pub not-implied-said : (Asked → ⊥) → answer .verdict ≡ notImplied
+  pub not-implied-said : (KeyFollows → ⊥) → answer .verdict ≡ notImplied
   not-implied-said f = ⊎-elim (λ p. absurd (f (p .holds))) tree-says evidence
 
 -- ---- the evidence

@@ -9,9 +9,9 @@ use lib.Dec.{T}
 use lib.ListN.{length}
 use Rattle.meaning.specs.Keys.{Key}
 use Rattle.meaning.specs.Pattern.{qOf, tOf}
-use Rattle.theory_paths.specs.Bools.{T-cases}
-use Rattle.theory_derive.specs.Logic.{less-or, found-below}
-use Rattle.theory_derive.specs.Spots.{Taken, lineOf, fires, Fires, Chain, begun, taken}
+use Rattle.theory_lists.specs.Bools.{T-cases}
+use Rattle.theory_lists.specs.Logic.{less-or, found-below}
+use Rattle.theory_pattern.specs.Spots.{Taken, rowOf, fires, Fires, Chain, begun, taken}
 use Rattle.theory_derive.specs.Firing.{fires-says, fires-test}
 
 -- each number below n is tried: one of them gives what is sought, or all are known to be Q
@@ -56,11 +56,11 @@ module _ (keys : List Key) (asked : Key) where
       (λ none.
       inr (λ t f below above.
       none (t .key) (found-below keys (t .key) (f .cited)) (t .node) (omega arith) (t .branch) (f .firing .isBranch) (t .spot)
-      (omega (arith, f .firing .onLine)) f below above))
+      (omega (arith, f .firing .onRow)) f below above))
       (try-below (length keys) (λ key.
       try-below (suc u) (λ node.
       try-below (length (asked .paths)) (λ branch.
-      try-below (suc (length (lineOf asked branch))) (λ spot. try-step u (record { key = key; node = node; branch = branch; spot = spot }))))))
+      try-below (suc (length (rowOf asked branch))) (λ spot. try-step u (record { key = key; node = node; branch = branch; spot = spot }))))))
 
   -- how the loop ends: at t, or at a u above t where no step can be taken
   pub data Ended : Type 0 where

@@ -8,7 +8,7 @@ use mathlib.Core.Bool.{Bool}
 use native.Mathlib.Decide.{ℕ-discrete}
 use lib.Dec.{T}
 use lib.ListN.{getD}
-use Rattle.theory_paths.specs.Bools.{T-cases}
+use Rattle.theory_lists.specs.Bools.{T-cases}
 use mathlib.Core.List.{List}
 use native.Mathlib.Omega.{arith}
 use Rattle.meaning.specs.Limits.{inProfile, inProof}
@@ -19,9 +19,9 @@ use Rattle.meaning.specs.Rules.{Line, Accepted}
 use Rattle.meaning.specs.Pattern.{qOf, tOf, Leads, IsU}
 use Rattle.theory_paths.specs.Good.{GoodLabels, GoodKey}
 use Rattle.theory_rules.specs.Accepted.{accepted-implied}
-use Rattle.theory_derive.specs.Logic.{each-imp}
-use Rattle.theory_derive.specs.Spots.{Taken, chainOf, Ends, atT, aboveSingle, Chain}
-use Rattle.theory_derive.specs.Singles.{single-clear}
+use Rattle.theory_lists.specs.Logic.{each-imp}
+use Rattle.theory_pattern.specs.Spots.{Taken, chainOf, Ends, atT, aboveSingle, Chain}
+use Rattle.theory_pattern.specs.Singles.{single-clear}
 use Rattle.theory_derive.specs.Written.{proofLines}
 use Rattle.theory_derive.specs.Accept.{proof-accepted, proof-fine}
 use Rattle.theory_derive.specs.Lowest.{chain-is-u, chain-implies}

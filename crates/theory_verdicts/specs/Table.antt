@@ -12,9 +12,9 @@ use Rattle.meaning.specs.Paths.{Label}
 use Rattle.meaning.specs.Keys.{Key, Implied}
 use Rattle.meaning.specs.Refusals
 use Rattle.meaning.specs.Refusals.{firstOf, goodLabel, keyTests}
-use Rattle.theory_paths.specs.Bools.{and-left, and-right, every-Each}
+use Rattle.theory_lists.specs.Bools.{and-left, and-right, every-Each}
 use Rattle.theory_paths.specs.Good.{GoodLabels, GoodKey, good-labels-none, good-labels-more, good-of-tests}
-use Rattle.theory_derive.specs.Logic.{each-imp, each-both}
+use Rattle.theory_lists.specs.Logic.{each-imp, each-both}
 use Rattle.theory_rows.specs.Bench.{Row, bench, rows}
 use Rattle.theory_rows.specs.Steps.{RowHolds, singleOf, steps-agree}
 use Rattle.theory_verdicts.specs.Exactly.{implied-exactly}

@@ -1,4 +1,4 @@
--- Equality of nodes whose children have their classes.
+-- Equality of nodes whose children have their families.
 pub mod Lists
 pub mod Nodes
 pub mod Pairing

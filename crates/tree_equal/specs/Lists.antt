@@ -12,7 +12,7 @@ use Rattle.meaning.specs.Trees.{Table, Child, Equal, EqualLists, ended, paired}
 use Rattle.tree_table.specs.Links.{LeastChild, Firsts, Nexts}
 use Rattle.tree_table.specs.Rest.{rest, IsKind, rest-yes, linked-rest, listOf, list-kept, ofKind, kept, kept-yes, kind-yes}
 use Rattle.tree_table.specs.Seek.{Sought, left, left-falls}
-use Rattle.tree_table.specs.Decides.{Decides}
+use Rattle.tree_table.specs.Tells.{Tells}
 
 -- Link i is 0 or a child of v of the kind
 pub record AtKind (κ : ℕ → Class) (t : Table) (attribute : Bool) (v i : ℕ) : Type 0 where
@@ -93,7 +93,7 @@ module _ (κ : ℕ → Class) (t : Table) (attribute : Bool) where
   head-equal (paired h w) = h
 
   pub compared-more : (next : List ℕ) (x y i j e f k l : ℕ) (r : Bool) → Nexts t next → Compared κ t attribute x y i j → 0 < i → 0 < j
-      → Decides (Equal κ t i j) r → r ≡ true → e ≡ getD next i 0 → Sought κ t attribute e k → f ≡ getD next j 0 → Sought κ t attribute f l
+      → Tells (Equal κ t i j) r → r ≡ true → e ≡ getD next i 0 → Sought κ t attribute e k → f ≡ getD next j 0 → Sought κ t attribute f l
       → Compared κ t attribute x y k l
   compared-more next x y i j e f k l r links c p q d told g s h u =
       let m = next-list next x i e k links (c .first) p g s in
@@ -135,7 +135,7 @@ module _ (κ : ℕ → Class) (t : Table) (attribute : Bool) where
 
   -- one law for each return of `children_eq`
   pub list-longer : (x y i j : ℕ) → Compared κ t attribute x y i j → 0 < i → j ≡ 0
-      → Decides (EqualLists κ t (listOf κ t attribute x) (listOf κ t attribute y)) false
+      → Tells (EqualLists κ t (listOf κ t attribute x) (listOf κ t attribute y)) false
   list-longer x y i j c p e =
       record {
         yes = λ h. absurd (false≢true h);
@@ -143,8 +143,8 @@ module _ (κ : ℕ → Class) (t : Table) (attribute : Bool) where
             (subst₂ (EqualLists κ t) (rest-head x i (c .first) p) (ap (rest κ t attribute y) e ∙ rest-none y) (c .onward w));
       }
 
-  pub lists-differ : (x y i j : ℕ) (r : Bool) → Compared κ t attribute x y i j → 0 < i → 0 < j → Decides (Equal κ t i j) r → r ≡ false
-      → Decides (EqualLists κ t (listOf κ t attribute x) (listOf κ t attribute y)) false
+  pub lists-differ : (x y i j : ℕ) (r : Bool) → Compared κ t attribute x y i j → 0 < i → 0 < j → Tells (Equal κ t i j) r → r ≡ false
+      → Tells (EqualLists κ t (listOf κ t attribute x) (listOf κ t attribute y)) false
   lists-differ x y i j r c p q d n =
       record {
         yes = λ h. absurd (false≢true h);
@@ -153,7 +153,7 @@ module _ (κ : ℕ → Class) (t : Table) (attribute : Bool) where
       }
 
   pub lists-end : (x y i j : ℕ) → Compared κ t attribute x y i j → i ≡ 0
-      → Decides (EqualLists κ t (listOf κ t attribute x) (listOf κ t attribute y)) (eqb j 0)
+      → Tells (EqualLists κ t (listOf κ t attribute x) (listOf κ t attribute y)) (eqb j 0)
   lists-end x y i j c e =
       record {
         yes = λ h.

@@ -1,4 +1,4 @@
--- The attributes of two elements paired by marks at their classes: a law for each turn and each return.
+-- The attributes of two elements paired by marks at their families: a law for each turn and each return.
 use Prim.Native.Nat.{ℕ, zero, suc, _+_, _-_, _<_, _≤_}
 use mathlib.Core.Path.{_≡_, refl, sym, _∙_, ap, subst}
 use mathlib.Core.Bool.{Bool, true, false, false≢true}
@@ -11,7 +11,7 @@ use lib.Seq.{getD-set-same, getD-set-other}
 use borrow.Author.Tests.{eq-eqb, ne-eqb, eqb-true, eqb-false}
 use Rattle.meaning.specs.Paths.{Class}
 use Rattle.meaning.specs.Trees.{Table, EqualSets}
-use Rattle.theory_paths.specs.Bools.{and-left}
+use Rattle.theory_lists.specs.Bools.{and-left}
 use Rattle.theory_trees.specs.Below.{ParentsSmaller, child-greater}
 use Rattle.theory_trees.specs.Children.{attribute-child}
 use Rattle.theory_trees.specs.Matching.{oneIf, countOf}
@@ -19,41 +19,41 @@ use Rattle.theory_trees.specs.Counting.{sameCounts, sets-counts}
 use Rattle.tree_table.specs.Links.{Firsts, Nexts}
 use Rattle.tree_table.specs.Rest.{rest, listOf}
 use Rattle.tree_table.specs.Seek.{Sought, left}
-use Rattle.tree_table.specs.Decides.{Decides}
-use Rattle.tree_rows.specs.Classed.{ClassedFrom}
+use Rattle.tree_table.specs.Tells.{Tells}
+use Rattle.tree_rows.specs.Families.{FamiliesFrom}
 use Rattle.tree_equal.specs.Lists.{AtKind, first-list, next-list, rest-head, rest-none, compared-falls, kind-greater}
-use Rattle.tree_equal.specs.Pairing.{isOf, Known, classes-match, sets-count}
+use Rattle.tree_equal.specs.Pairing.{isOf, Known, families-match, sets-count}
 
 -- No mark anywhere
 pub record Clean (marks : List ℕ) : Type 0 where
   pub long : length marks ≡ 4096
   pub none : (d : ℕ) → getD marks d 0 ≡ 0
 
--- As many marks at each class as the list has nodes of it
-pub record Marked (class ys marks : List ℕ) : Type 0 where
+-- As many marks at each family as the list has nodes of it
+pub record Marked (family ys marks : List ℕ) : Type 0 where
   pub long : length marks ≡ 4096
-  pub each : (d : ℕ) → getD marks d 0 ≡ countOf (isOf class d) ys
+  pub each : (d : ℕ) → getD marks d 0 ≡ countOf (isOf family d) ys
 
--- Marks at classes of the list alone
-pub record Left (class ys marks : List ℕ) : Type 0 where
+-- Marks at families of the list alone
+pub record Left (family ys marks : List ℕ) : Type 0 where
   pub long : length marks ≡ 4096
-  pub each : (d : ℕ) → countOf (isOf class d) ys ≡ 0 → getD marks d 0 ≡ 0
+  pub each : (d : ℕ) → countOf (isOf family d) ys ≡ 0 → getD marks d 0 ≡ 0
 
 -- What `pair_off` gives
-pub record PairedOff (κ : ℕ → Class) (t : Table) (class : List ℕ) (x y : ℕ) (marks : List ℕ) (r : Bool) : Type 0 where
-  pub answer : Decides (EqualSets κ t (listOf κ t true x) (listOf κ t true y)) r
+pub record PairedOff (κ : ℕ → Class) (t : Table) (family : List ℕ) (x y : ℕ) (marks : List ℕ) (r : Bool) : Type 0 where
+  pub answer : Tells (EqualSets κ t (listOf κ t true x) (listOf κ t true y)) r
   pub clean : r ≡ true → Clean marks
-  pub left : Left class (listOf κ t true y) marks
+  pub left : Left family (listOf κ t true y) marks
 
--- the class of a child is known, and stands in the table
-pub class-fits : (κ : ℕ → Class) (t : Table) (class : List ℕ) (from v k own : ℕ) → ((n : ℕ) → 0 < n → n < t .size → t .parent n < n)
-    → ClassedFrom κ t class from → from ≤ v + 1 → AtKind κ t true v k → 0 < k → own ≡ getD class k 0 → own < t .size
-class-fits κ t class from v k own small c h a p e =
+-- the family of a child is known, and stands in the table
+pub family-fits : (κ : ℕ → Class) (t : Table) (family : List ℕ) (from v k own : ℕ) → ((n : ℕ) → 0 < n → n < t .size → t .parent n < n)
+    → FamiliesFrom κ t family from → from ≤ v + 1 → AtKind κ t true v k → 0 < k → own ≡ getD family k 0 → own < t .size
+family-fits κ t family from v k own small c h a p e =
     let g = kind-greater κ t true v k small a p in
     let i = c .inside k (omega arith) (a .inside) in
     omega arith
 
--- the attributes of v have their classes
+-- the attributes of v have their families
 attributes-known : (κ : ℕ → Class) (t : Table) (from v : ℕ) → ParentsSmaller t → from ≤ v + 1 → Known from (t .size) (listOf κ t true v)
 unfolding listOf
 attributes-known κ t from v small h z m =
@@ -91,50 +91,50 @@ module _ (κ : ℕ → Class) (t : Table) (v : ℕ) where
   walked-end : (k n : ℕ) → k ≡ 0 → Walked κ t v k n → n ≡ length (listOf κ t true v)
   walked-end k n e w = let l = ap length (none-left k e) in let m = w .sum in omega arith
 
-  -- of each class: none at the end
-  counted-end : (class : List ℕ) (d k : ℕ) → k ≡ 0 → countOf (isOf class d) (rest κ t true v k) ≡ 0
+  -- of each family: none at the end
+  counted-end : (family : List ℕ) (d k : ℕ) → k ≡ 0 → countOf (isOf family d) (rest κ t true v k) ≡ 0
   unfolding countOf
-  counted-end class d k e = ap (countOf (isOf class d)) (none-left k e)
+  counted-end family d k e = ap (countOf (isOf family d)) (none-left k e)
 
--- node k is in front: it counts for its own class, and for no other
-module _ (class : List ℕ) {xs ks : List ℕ} (k own : ℕ) (q : xs ≡ k ∷ ks) (is : own ≡ getD class k 0) where
-  turn : (d : ℕ) → countOf (isOf class d) xs ≡ oneIf (isOf class d k) + countOf (isOf class d) ks
+-- node k is in front: it counts for its own family, and for no other
+module _ (family : List ℕ) {xs ks : List ℕ} (k own : ℕ) (q : xs ≡ k ∷ ks) (is : own ≡ getD family k 0) where
+  turn : (d : ℕ) → countOf (isOf family d) xs ≡ oneIf (isOf family d k) + countOf (isOf family d) ks
   unfolding countOf
-  turn d = ap (countOf (isOf class d)) q
+  turn d = ap (countOf (isOf family d)) q
 
-  counted-here : (d : ℕ) → d ≡ own → countOf (isOf class d) xs ≡ 1 + countOf (isOf class d) ks
+  counted-here : (d : ℕ) → d ≡ own → countOf (isOf family d) xs ≡ 1 + countOf (isOf family d) ks
   unfolding isOf oneIf
-  counted-here d z = let o = ap oneIf (eq-eqb (getD class k 0) d (sym is ∙ sym z)) in let f = turn d in omega arith
+  counted-here d z = let o = ap oneIf (eq-eqb (getD family k 0) d (sym is ∙ sym z)) in let f = turn d in omega arith
 
-  counted-other : (d : ℕ) → (d ≡ own → ⊥) → countOf (isOf class d) xs ≡ countOf (isOf class d) ks
+  counted-other : (d : ℕ) → (d ≡ own → ⊥) → countOf (isOf family d) xs ≡ countOf (isOf family d) ks
   unfolding isOf oneIf
-  counted-other d n = let o = ap oneIf (ne-eqb (getD class k 0) d (λ g. n (sym g ∙ sym is))) in let f = turn d in omega arith
+  counted-other d n = let o = ap oneIf (ne-eqb (getD family k 0) d (λ g. n (sym g ∙ sym is))) in let f = turn d in omega arith
 
--- a mark put at a class
+-- a mark put at a family
 set-here : (marks : List ℕ) (own m d : ℕ) → own < 4096 → length marks ≡ 4096 → d ≡ own → getD (set marks own m) d 0 ≡ m
 set-here marks own m d b l z = ap (λ (n : ℕ). getD (set marks own m) n 0) z ∙ getD-set-same marks own m 0 (omega arith)
 
 -- Up to link k, each attribute of v has put its mark
-pub record Marking (κ : ℕ → Class) (t : Table) (class : List ℕ) (v k n : ℕ) (marks : List ℕ) : Type 0 where
+pub record Marking (κ : ℕ → Class) (t : Table) (family : List ℕ) (v k n : ℕ) (marks : List ℕ) : Type 0 where
   pub walked : Walked κ t v k n
   pub long : length marks ≡ 4096
-  pub each : (d : ℕ) → getD marks d 0 + countOf (isOf class d) (rest κ t true v k) ≡ countOf (isOf class d) (listOf κ t true v)
+  pub each : (d : ℕ) → getD marks d 0 + countOf (isOf family d) (rest κ t true v k) ≡ countOf (isOf family d) (listOf κ t true v)
   pub few : (d : ℕ) → getD marks d 0 ≤ n
 
-module _ (κ : ℕ → Class) (t : Table) (class : List ℕ) (v : ℕ) where
+module _ (κ : ℕ → Class) (t : Table) (family : List ℕ) (v : ℕ) where
   pub marking-start : (first : List ℕ) (e k : ℕ) (marks : List ℕ) → Firsts t first → v < t .size → e ≡ getD first v 0 → Sought κ t true e k → Clean marks
-      → Marking κ t class v k 0 marks
+      → Marking κ t family v k 0 marks
   marking-start first e k marks links b h s c =
       let p = first-list κ t true first v e k links b h s in
       record {
         walked = walked-start κ t v first e k links b h s;
         long = c .long;
-        each = λ d. let z = c .none d in let q = ap (countOf (isOf class d)) (p .1) in omega arith;
+        each = λ d. let z = c .none d in let q = ap (countOf (isOf family d)) (p .1) in omega arith;
         few = λ d. let z = c .none d in omega arith;
       }
 
-  pub marking-more : (next : List ℕ) (k e r n own : ℕ) (marks : List ℕ) → Nexts t next → Marking κ t class v k n marks → 0 < k → e ≡ getD next k 0
-      → Sought κ t true e r → own ≡ getD class k 0 → own < 4096 → Marking κ t class v r (n + 1) (set marks own (getD marks own 0 + 1))
+  pub marking-more : (next : List ℕ) (k e r n own : ℕ) (marks : List ℕ) → Nexts t next → Marking κ t family v k n marks → 0 < k → e ≡ getD next k 0
+      → Sought κ t true e r → own ≡ getD family k 0 → own < 4096 → Marking κ t family v r (n + 1) (set marks own (getD marks own 0 + 1))
   marking-more next k e r n own marks links m p h s is b =
       record {
         walked = walked-next κ t v next k e r n links (m .walked) p h s;
@@ -144,16 +144,16 @@ module _ (κ : ℕ → Class) (t : Table) (class : List ℕ) (v : ℕ) where
       }
     where
       one : (d : ℕ) → Dec (d ≡ own)
-          → getD (set marks own (getD marks own 0 + 1)) d 0 + countOf (isOf class d) (rest κ t true v r) ≡ countOf (isOf class d) (listOf κ t true v)
+          → getD (set marks own (getD marks own 0 + 1)) d 0 + countOf (isOf family d) (rest κ t true v r) ≡ countOf (isOf family d) (listOf κ t true v)
       one d (yes z) =
           let f = set-here marks own (getD marks own 0 + 1) d b (m .long) z in
           let g = ap (λ (i : ℕ). getD marks i 0) z in
-          let q = counted-here class k own (next-list κ t true next v k e r links (m .walked .at) p h s .1) is d z in
+          let q = counted-here family k own (next-list κ t true next v k e r links (m .walked .at) p h s .1) is d z in
           let w = m .each d in
           omega arith
       one d (no o) =
           let f = getD-set-other marks own d (getD marks own 0 + 1) 0 o in
-          let q = counted-other class k own (next-list κ t true next v k e r links (m .walked .at) p h s .1) is d o in
+          let q = counted-other family k own (next-list κ t true next v k e r links (m .walked .at) p h s .1) is d o in
           let w = m .each d in
           omega arith
 
@@ -161,36 +161,36 @@ module _ (κ : ℕ → Class) (t : Table) (class : List ℕ) (v : ℕ) where
       most d (yes z) = let f = set-here marks own (getD marks own 0 + 1) d b (m .long) z in let g = m .few own in omega arith
       most d (no o) = let f = getD-set-other marks own d (getD marks own 0 + 1) 0 o in let g = m .few d in omega arith
 
-  pub marking-end : (k n : ℕ) (marks : List ℕ) → k ≡ 0 → Marking κ t class v k n marks
-      → Marked class (listOf κ t true v) marks × (n ≡ length (listOf κ t true v))
+  pub marking-end : (k n : ℕ) (marks : List ℕ) → k ≡ 0 → Marking κ t family v k n marks
+      → Marked family (listOf κ t true v) marks × (n ≡ length (listOf κ t true v))
   marking-end k n marks z m = (
-    record { long = m .long; each = λ d. let e = counted-end κ t v class d k z in let w = m .each d in omega arith },
+    record { long = m .long; each = λ d. let e = counted-end κ t v family d k z in let w = m .each d in omega arith },
     walked-end κ t v k n z (m .walked),
   )
 
 -- Up to link i, each attribute of x has taken off a mark of y's
-pub record Pairing (κ : ℕ → Class) (t : Table) (class : List ℕ) (x y i n : ℕ) (marks : List ℕ) : Type 0 where
+pub record Pairing (κ : ℕ → Class) (t : Table) (family : List ℕ) (x y i n : ℕ) (marks : List ℕ) : Type 0 where
   pub walked : Walked κ t x i n
   pub long : length marks ≡ 4096
   pub each : (d : ℕ)
-      → getD marks d 0 + countOf (isOf class d) (listOf κ t true x) ≡ countOf (isOf class d) (listOf κ t true y) + countOf (isOf class d) (rest κ t true x i)
-  pub most : (d : ℕ) → getD marks d 0 ≤ countOf (isOf class d) (listOf κ t true y)
+      → getD marks d 0 + countOf (isOf family d) (listOf κ t true x) ≡ countOf (isOf family d) (listOf κ t true y) + countOf (isOf family d) (rest κ t true x i)
+  pub most : (d : ℕ) → getD marks d 0 ≤ countOf (isOf family d) (listOf κ t true y)
 
-module _ (κ : ℕ → Class) (t : Table) (class : List ℕ) (x y : ℕ) where
+module _ (κ : ℕ → Class) (t : Table) (family : List ℕ) (x y : ℕ) where
   pub pairing-start : (first : List ℕ) (e i : ℕ) (marks : List ℕ) → Firsts t first → x < t .size → e ≡ getD first x 0 → Sought κ t true e i
-      → Marked class (listOf κ t true y) marks → Pairing κ t class x y i 0 marks
+      → Marked family (listOf κ t true y) marks → Pairing κ t family x y i 0 marks
   pairing-start first e i marks links b h s m =
       let p = first-list κ t true first x e i links b h s in
       record {
         walked = walked-start κ t x first e i links b h s;
         long = m .long;
-        each = λ d. let z = m .each d in let q = ap (countOf (isOf class d)) (p .1) in omega arith;
+        each = λ d. let z = m .each d in let q = ap (countOf (isOf family d)) (p .1) in omega arith;
         most = λ d. let z = m .each d in omega arith;
       }
 
-  pub pairing-more : (next : List ℕ) (i e r n own : ℕ) (marks : List ℕ) → Nexts t next → Pairing κ t class x y i n marks → 0 < i → e ≡ getD next i 0
-      → Sought κ t true e r → own ≡ getD class i 0 → own < 4096 → 0 < getD marks own 0
-      → Pairing κ t class x y r (n + 1) (set marks own (getD marks own 0 - 1))
+  pub pairing-more : (next : List ℕ) (i e r n own : ℕ) (marks : List ℕ) → Nexts t next → Pairing κ t family x y i n marks → 0 < i → e ≡ getD next i 0
+      → Sought κ t true e r → own ≡ getD family i 0 → own < 4096 → 0 < getD marks own 0
+      → Pairing κ t family x y r (n + 1) (set marks own (getD marks own 0 - 1))
   pairing-more next i e r n own marks links m p h s is b some =
       record {
         walked = walked-next κ t x next i e r n links (m .walked) p h s;
@@ -200,21 +200,21 @@ module _ (κ : ℕ → Class) (t : Table) (class : List ℕ) (x y : ℕ) where
       }
     where
       one : (d : ℕ) → Dec (d ≡ own)
-          → getD (set marks own (getD marks own 0 - 1)) d 0 + countOf (isOf class d) (listOf κ t true x)
-          ≡ countOf (isOf class d) (listOf κ t true y) + countOf (isOf class d) (rest κ t true x r)
+          → getD (set marks own (getD marks own 0 - 1)) d 0 + countOf (isOf family d) (listOf κ t true x)
+          ≡ countOf (isOf family d) (listOf κ t true y) + countOf (isOf family d) (rest κ t true x r)
       one d (yes z) =
           let f = set-here marks own (getD marks own 0 - 1) d b (m .long) z in
           let g = ap (λ (i : ℕ). getD marks i 0) z in
-          let q = counted-here class i own (next-list κ t true next x i e r links (m .walked .at) p h s .1) is d z in
+          let q = counted-here family i own (next-list κ t true next x i e r links (m .walked .at) p h s .1) is d z in
           let w = m .each d in
           omega arith
       one d (no o) =
           let f = getD-set-other marks own d (getD marks own 0 - 1) 0 o in
-          let q = counted-other class i own (next-list κ t true next x i e r links (m .walked .at) p h s .1) is d o in
+          let q = counted-other family i own (next-list κ t true next x i e r links (m .walked .at) p h s .1) is d o in
           let w = m .each d in
           omega arith
 
-      less : (d : ℕ) → Dec (d ≡ own) → getD (set marks own (getD marks own 0 - 1)) d 0 ≤ countOf (isOf class d) (listOf κ t true y)
+      less : (d : ℕ) → Dec (d ≡ own) → getD (set marks own (getD marks own 0 - 1)) d 0 ≤ countOf (isOf family d) (listOf κ t true y)
       less d (yes z) =
           let f = set-here marks own (getD marks own 0 - 1) d b (m .long) z in
           let g = ap (λ (i : ℕ). getD marks i 0) z in
@@ -222,23 +222,23 @@ module _ (κ : ℕ → Class) (t : Table) (class : List ℕ) (x y : ℕ) where
           omega arith
       less d (no o) = let f = getD-set-other marks own d (getD marks own 0 - 1) 0 o in let w = m .most d in omega arith
 
-  pairing-left : (i n : ℕ) (marks : List ℕ) → Pairing κ t class x y i n marks → Left class (listOf κ t true y) marks
+  pairing-left : (i n : ℕ) (marks : List ℕ) → Pairing κ t family x y i n marks → Left family (listOf κ t true y) marks
   pairing-left i n marks m = record { long = m .long; each = λ d z. let w = m .most d in omega arith }
 
-  module _ (from : ℕ) (small : ParentsSmaller t) (c : ClassedFrom κ t class from) (a : from ≤ x + 1) (b : from ≤ y + 1) where
+  module _ (from : ℕ) (small : ParentsSmaller t) (c : FamiliesFrom κ t family from) (a : from ≤ x + 1) (b : from ≤ y + 1) where
     same-counts : (d : ℕ) → EqualSets κ t (listOf κ t true x) (listOf κ t true y)
-        → countOf (isOf class d) (listOf κ t true x) ≡ countOf (isOf class d) (listOf κ t true y)
-    same-counts d w = sets-count κ t class from c d (attributes-known κ t from x small a) (attributes-known κ t from y small b) w
+        → countOf (isOf family d) (listOf κ t true x) ≡ countOf (isOf family d) (listOf κ t true y)
+    same-counts d w = sets-count κ t family from c d (attributes-known κ t from x small a) (attributes-known κ t from y small b) w
 
     -- an attribute that finds no mark
-    pub pairing-missed : (i n own : ℕ) (marks : List ℕ) → Pairing κ t class x y i n marks → 0 < i → own ≡ getD class i 0 → getD marks own 0 ≡ 0
-        → PairedOff κ t class x y marks false
+    pub pairing-missed : (i n own : ℕ) (marks : List ℕ) → Pairing κ t family x y i n marks → 0 < i → own ≡ getD family i 0 → getD marks own 0 ≡ 0
+        → PairedOff κ t family x y marks false
     pairing-missed i n own marks m p is none =
         record {
           answer = record {
             yes = λ q. absurd (false≢true q);
             no = λ q w.
-                let f = counted-here class i own (rest-head κ t true x i (m .walked .at) p) is own refl in
+                let f = counted-here family i own (rest-head κ t true x i (m .walked .at) p) is own refl in
                 let g = same-counts own w in
                 let k = m .each own in
                 omega arith;
@@ -248,15 +248,15 @@ module _ (κ : ℕ → Class) (t : Table) (class : List ℕ) (x y : ℕ) where
         }
 
     -- "equally many"
-    pub pairing-end : (i n marked : ℕ) (marks : List ℕ) → i ≡ 0 → Pairing κ t class x y i n marks → marked ≡ length (listOf κ t true y)
-        → PairedOff κ t class x y marks (eqb n marked)
+    pub pairing-end : (i n marked : ℕ) (marks : List ℕ) → i ≡ 0 → Pairing κ t family x y i n marks → marked ≡ length (listOf κ t true y)
+        → PairedOff κ t family x y marks (eqb n marked)
     pairing-end i n marked marks z m long =
         record {
           answer = record { yes = met; no = λ q w. eqb-false n marked q (own ∙ same-length w ∙ sym long) };
           clean = λ q.
               record {
                 long = m .long;
-                none = λ d. let f = same-counts d (met q) in let g = counted-end κ t x class d i z in let k = m .each d in omega arith;
+                none = λ d. let f = same-counts d (met q) in let g = counted-end κ t x family d i z in let k = m .each d in omega arith;
               };
           left = pairing-left i n marks m;
         }
@@ -266,9 +266,9 @@ module _ (κ : ℕ → Class) (t : Table) (class : List ℕ) (x y : ℕ) where
 
         met : eqb n marked ≡ true → EqualSets κ t (listOf κ t true x) (listOf κ t true y)
         met q =
-            classes-match κ t class from c (listOf κ t true x) (listOf κ t true y) (attributes-known κ t from x small a) (attributes-known κ t from y small b)
+            families-match κ t family from c (listOf κ t true x) (listOf κ t true y) (attributes-known κ t from x small a) (attributes-known κ t from y small b)
             (sym own ∙ eqb-true n marked q ∙ long)
-            (λ d. let g = counted-end κ t x class d i z in let k = m .each d in omega arith)
+            (λ d. let g = counted-end κ t x family d i z in let k = m .each d in omega arith)
 
         same-length : EqualSets κ t (listOf κ t true x) (listOf κ t true y) → length (listOf κ t true x) ≡ length (listOf κ t true y)
         same-length w =
@@ -276,29 +276,29 @@ module _ (κ : ℕ → Class) (t : Table) (class : List ℕ) (x y : ℕ) where
             eqb→eq _ _ (and-left (eqb (length (listOf κ t true x)) (length (listOf κ t true y))) _ (sets-counts κ t (listOf κ t true x) (listOf κ t true y) (λ z m. attribute-child κ t m .1) w))
 
 -- Up to link k, no attribute of v has a mark left
-pub record Unmarking (κ : ℕ → Class) (t : Table) (class : List ℕ) (v k : ℕ) (marks : List ℕ) : Type 0 where
+pub record Unmarking (κ : ℕ → Class) (t : Table) (family : List ℕ) (v k : ℕ) (marks : List ℕ) : Type 0 where
   pub at : AtKind κ t true v k
-  pub left : Left class (rest κ t true v k) marks
+  pub left : Left family (rest κ t true v k) marks
 
-module _ (κ : ℕ → Class) (t : Table) (class : List ℕ) (v : ℕ) where
+module _ (κ : ℕ → Class) (t : Table) (family : List ℕ) (v : ℕ) where
   pub unmarking-start : (first : List ℕ) (e k : ℕ) (marks : List ℕ) → Firsts t first → v < t .size → e ≡ getD first v 0 → Sought κ t true e k
-      → Left class (listOf κ t true v) marks → Unmarking κ t class v k marks
+      → Left family (listOf κ t true v) marks → Unmarking κ t family v k marks
   unmarking-start first e k marks links b h s m =
       let p = first-list κ t true first v e k links b h s in
-      record { at = p .0; left = subst (λ (l : List ℕ). Left class l marks) (p .1) m }
+      record { at = p .0; left = subst (λ (l : List ℕ). Left family l marks) (p .1) m }
 
-  pub unmarking-more : (next : List ℕ) (k e r own : ℕ) (marks : List ℕ) → Nexts t next → Unmarking κ t class v k marks → 0 < k → e ≡ getD next k 0
-      → Sought κ t true e r → own ≡ getD class k 0 → own < 4096 → Unmarking κ t class v r (set marks own 0)
+  pub unmarking-more : (next : List ℕ) (k e r own : ℕ) (marks : List ℕ) → Nexts t next → Unmarking κ t family v k marks → 0 < k → e ≡ getD next k 0
+      → Sought κ t true e r → own ≡ getD family k 0 → own < 4096 → Unmarking κ t family v r (set marks own 0)
   unmarking-more next k e r own marks links m p h s is b =
       record {
         at = next-list κ t true next v k e r links (m .at) p h s .0;
         left = record { long = length-set marks own 0 ∙ m .left .long; each = λ d q. one d q (ℕ-discrete d own) };
       }
     where
-      one : (d : ℕ) → countOf (isOf class d) (rest κ t true v r) ≡ 0 → Dec (d ≡ own) → getD (set marks own 0) d 0 ≡ 0
+      one : (d : ℕ) → countOf (isOf family d) (rest κ t true v r) ≡ 0 → Dec (d ≡ own) → getD (set marks own 0) d 0 ≡ 0
       one d q (yes z) = set-here marks own 0 d b (m .left .long) z
       one d q (no o) =
-          getD-set-other marks own d 0 0 o ∙ m .left .each d (counted-other class k own (next-list κ t true next v k e r links (m .at) p h s .1) is d o ∙ q)
+          getD-set-other marks own d 0 0 o ∙ m .left .each d (counted-other family k own (next-list κ t true next v k e r links (m .at) p h s .1) is d o ∙ q)
 
-  pub unmarking-end : (k : ℕ) (marks : List ℕ) → k ≡ 0 → Unmarking κ t class v k marks → Clean marks
-  unmarking-end k marks z m = record { long = m .left .long; none = λ d. m .left .each d (counted-end κ t v class d k z) }
+  pub unmarking-end : (k : ℕ) (marks : List ℕ) → k ≡ 0 → Unmarking κ t family v k marks → Clean marks
+  unmarking-end k marks z m = record { long = m .left .long; none = λ d. m .left .each d (counted-end κ t v family d k z) }

@@ -8,10 +8,10 @@ use Rattle.meaning.specs.Paths.{Class, isElement}
 use Rattle.meaning.specs.Trees.{Table, Equal, leaves, elements, EqualSets, EqualLists}
 use Rattle.theory_trees.specs.Laws.{equal-label, equal-value}
 use Rattle.tree_table.specs.Rest.{listOf}
-use Rattle.tree_table.specs.Decides.{Decides}
+use Rattle.tree_table.specs.Tells.{Tells}
 
 module _ (κ : ℕ → Class) (t : Table) (x y : ℕ) where
-  pub labels-differ : (l m : ℕ) → l ≡ t .label x → m ≡ t .label y → (l ≡ m → ⊥) → Decides (Equal κ t x y) false
+  pub labels-differ : (l m : ℕ) → l ≡ t .label x → m ≡ t .label y → (l ≡ m → ⊥) → Tells (Equal κ t x y) false
   labels-differ l m e f n = record { yes = λ h. absurd (false≢true h); no = λ h q. n (e ∙ equal-label q ∙ sym f) }
 
   is-leaf : (l : ℕ) → l ≡ t .label x → (b : Bool) → b ≡ isElement (κ l) → b ≡ false → T (not (isElement (κ (t .label x))))
@@ -21,7 +21,7 @@ module _ (κ : ℕ → Class) (t : Table) (x y : ℕ) where
   is-element l e b i f = subst T (sym f ∙ i ∙ ap (λ (k : ℕ). isElement (κ k)) e) tt
 
   pub leaf-decides : (l m v w : ℕ) (b : Bool) → l ≡ t .label x → m ≡ t .label y → l ≡ m → b ≡ isElement (κ l) → b ≡ false → v ≡ t .value x
-      → w ≡ t .value y → Decides (Equal κ t x y) (eqb v w)
+      → w ≡ t .value y → Tells (Equal κ t x y) (eqb v w)
   leaf-decides l m v w b e f g i h p q =
       record {
         yes = λ r. leaves (sym e ∙ g ∙ f) (is-leaf l e b i h) (sym p ∙ eqb-true v w r ∙ q);
@@ -47,13 +47,13 @@ module _ (κ : ℕ → Class) (t : Table) (x y : ℕ) where
   element-lists h (elements l e a o) = o
 
   pub attributes-differ : (l : ℕ) (b r : Bool) → l ≡ t .label x → b ≡ isElement (κ l) → b ≡ true
-      → Decides (EqualSets κ t (listOf κ t true x) (listOf κ t true y)) r → r ≡ false → Decides (Equal κ t x y) false
+      → Tells (EqualSets κ t (listOf κ t true x) (listOf κ t true y)) r → r ≡ false → Tells (Equal κ t x y) false
   attributes-differ l b r e i h d f =
       record { yes = λ g. absurd (false≢true g); no = λ g q. d .no f (element-sets (is-element l e b i h) q) }
 
   pub others-decide : (l m : ℕ) (b r s : Bool) → l ≡ t .label x → m ≡ t .label y → l ≡ m → b ≡ isElement (κ l) → b ≡ true
-      → Decides (EqualSets κ t (listOf κ t true x) (listOf κ t true y)) r → r ≡ true
-      → Decides (EqualLists κ t (listOf κ t false x) (listOf κ t false y)) s → Decides (Equal κ t x y) s
+      → Tells (EqualSets κ t (listOf κ t true x) (listOf κ t true y)) r → r ≡ true
+      → Tells (EqualLists κ t (listOf κ t false x) (listOf κ t false y)) s → Tells (Equal κ t x y) s
   unfolding listOf
   others-decide l m b r s e f g i h d k o =
       record {

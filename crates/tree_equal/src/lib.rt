@@ -1,5 +1,5 @@
 // Value equality of two nodes (document 01, "Trees, paths and keys"): "equality of two nodes calls equality of their child lists, which calls
-// node equality again; nodes left below fall." Nodes from number `from` on have their classes already and are compared by them, so a call
+// node equality again; nodes left below fall." Nodes from number `from` on have their families already and are compared by them, so a call
 // costs the children of x and y.
 mod attributes;
 mod children;
@@ -9,7 +9,7 @@ use crate::children::seek;
 use read_record::classes::is_element;
 use read_record::limits::TREE_NODES;
 use tree_rows::rows::ROWS;
-use tree_rows::rows::class_of;
+use tree_rows::rows::family_of;
 use tree_rows::rows::first_child;
 use tree_rows::rows::next_sibling;
 use tree_table::fields::label;
@@ -18,10 +18,10 @@ ghost use mathlib.Core.Bool.{false};
 ghost use Prim.Native.Nat.{_+_, _<_, _≤_};
 ghost use Rattle.meaning.specs.Trees.{Equal, EqualLists};
 ghost use Rattle.tree_table.specs.FileTable.{fileTable, classBy};
-ghost use Rattle.tree_table.specs.Ready.{Ready};
+ghost use Rattle.tree_table.specs.LinkedTree.{LinkedTree};
 ghost use Rattle.tree_table.specs.Rest.{listOf};
-ghost use Rattle.tree_table.specs.Decides.{Decides};
-ghost use Rattle.tree_rows.specs.Classed.{ClassedFrom};
+ghost use Rattle.tree_table.specs.Tells.{Tells};
+ghost use Rattle.tree_rows.specs.Families.{FamiliesFrom};
 ghost use Rattle.tree_rows.specs.Rows.{row};
 ghost use Rattle.tree_equal.specs.Marks.{Clean};
 
@@ -36,14 +36,14 @@ pub fn node_eq(
     x: usize,
     y: usize,
 ) -> bool
-    requires { ⌜ Ready (now classes) (now tree) (row 8192 (now rows)) (row 12288 (now rows))
-        × ClassedFrom (classBy (now classes)) (fileTable (now tree)) (row 16384 (now rows)) from ⌝ }
+    requires { ⌜ LinkedTree (now classes) (now tree) (row 8192 (now rows)) (row 12288 (now rows))
+        × FamiliesFrom (classBy (now classes)) (fileTable (now tree)) (row 16384 (now rows)) from ⌝ }
     requires { ⌜ (x < fileTable (now tree) .size) × (y < fileTable (now tree) .size) × (from ≤ x + 1) × (from ≤ y + 1) × Clean (now marks) ⌝ }
-    ensures { λ r. ⌜ Decides (Equal (classBy (now (classes .entry))) (fileTable (now (tree .entry))) x y) r × Clean (now (marks .exit)) ⌝ }
+    ensures { λ r. ⌜ Tells (Equal (classBy (now (classes .entry))) (fileTable (now (tree .entry))) x y) r × Clean (now (marks .exit)) ⌝ }
 {
     if from <= x {
         if from <= y {
-            return class_of(rows, x) == class_of(rows, y);
+            return family_of(rows, x) == family_of(rows, y);
         }
     }
     let label_x = label(tree, x);
@@ -70,10 +70,10 @@ fn children_eq(
     x: usize,
     y: usize,
 ) -> bool
-    requires { ⌜ Ready (now classes) (now tree) (row 8192 (now rows)) (row 12288 (now rows))
-        × ClassedFrom (classBy (now classes)) (fileTable (now tree)) (row 16384 (now rows)) from ⌝ }
+    requires { ⌜ LinkedTree (now classes) (now tree) (row 8192 (now rows)) (row 12288 (now rows))
+        × FamiliesFrom (classBy (now classes)) (fileTable (now tree)) (row 16384 (now rows)) from ⌝ }
     requires { ⌜ (x < fileTable (now tree) .size) × (y < fileTable (now tree) .size) × (from ≤ x + 1) × (from ≤ y + 1) × Clean (now marks) ⌝ }
-    ensures { λ r. ⌜ Decides
+    ensures { λ r. ⌜ Tells
         (EqualLists (classBy (now (classes .entry))) (fileTable (now (tree .entry)))
         (listOf (classBy (now (classes .entry))) (fileTable (now (tree .entry))) false x)
         (listOf (classBy (now (classes .entry))) (fileTable (now (tree .entry))) false y)) r × Clean (now (marks .exit)) ⌝ }

@@ -1,4 +1,4 @@
--- The laws of child links, classes and chains for tables that are rows: one for each turn of a loop.
+-- The laws of child links, families and chains for tables that are rows: one for each turn of a loop.
 use Prim.Native.Nat.{ℕ, _+_, _-_, _<_, _≤_}
 use mathlib.Core.Path.{_≡_, refl, sym, _∙_, ap, subst}
 use mathlib.Core.List.{List}
@@ -9,11 +9,11 @@ use Rattle.meaning.specs.Paths.{Class}
 use Rattle.meaning.specs.Trees.{Table}
 use Rattle.tree_table.specs.FileTable.{fileTable, classBy, TreeBytes}
 use Rattle.tree_table.specs.Links.{LinkedFrom, Linked, Nexts, linked-step}
-use Rattle.tree_table.specs.Ready.{Ready, parents-smaller, bytes-tree}
-use Rattle.tree_rows.specs.Classed.{Classed, ClassedFrom, Smallest}
-use Rattle.tree_groups.specs.Leaders.{ClassIs, classed-step, classed-all}
-use Rattle.tree_groups.specs.Lowest.{LowFrom, NamedTo, named-step, classified, count-fits}
-use Rattle.tree_rows.specs.Chain.{byClass, chain-step}
+use Rattle.tree_table.specs.LinkedTree.{LinkedTree, parents-smaller, bytes-tree}
+use Rattle.tree_rows.specs.Families.{Families, FamiliesFrom, Smallest}
+use Rattle.tree_groups.specs.Leaders.{FamilyIs, families-step, families-all}
+use Rattle.tree_groups.specs.Lowest.{LowFrom, NamedTo, named-step, familiesNamed, count-fits}
+use Rattle.tree_rows.specs.Chain.{byFamily, chain-step}
 use Rattle.tree_rows.specs.Rows.{row, row-at, row-set, row-before, row-behind}
 use Rattle.tree_rows.specs.Prepared.{Prepared}
 use Rattle.tree_rows.specs.Filled.{Filled, row-long}
@@ -50,14 +50,14 @@ rows-link t rows j p old few l low high e b f k =
     (linked-step t (row 8192 rows) (row 12288 rows) j p low high (omega arith) (omega arith) e b k))
 
 -- Classes in the row at 16,384
-pub classed-start : (κ : ℕ → Class) (t : Table) (n : ℕ) (rows : List ℕ) → n ≡ t .size → length rows ≡ 24576
-    → ClassedFrom κ t (row 16384 (set rows 16384 0)) n
-classed-start κ t n rows e l =
+pub families-start : (κ : ℕ → Class) (t : Table) (n : ℕ) (rows : List ℕ) → n ≡ t .size → length rows ≡ 24576
+    → FamiliesFrom κ t (row 16384 (set rows 16384 0)) n
+families-start κ t n rows e l =
     let z : 16384 + 0 ≡ 16384 = omega arith in
     let m = row-long 16384 rows l (omega arith) in
     let k : row 16384 (set rows 16384 0) ≡ set (row 16384 rows) 0 0 =
     ap (λ (i : ℕ). row 16384 (set rows i 0)) (sym z) ∙ row-set 16384 rows 0 0 (omega arith) in
-    subst (λ (r : List ℕ). ClassedFrom κ t r n) (sym k)
+    subst (λ (r : List ℕ). FamiliesFrom κ t r n) (sym k)
     (record {
       long = length-set (row 16384 rows) 0 0 ∙ m;
       root = getD-set-same (row 16384 rows) 0 0 0 (omega arith);
@@ -68,23 +68,23 @@ classed-start κ t n rows e l =
       one = λ u v h g. absurd (omega arith);
     })
 
-pub rows-class : (κ : ℕ → Class) (t : Table) (rows : List ℕ) (j r : ℕ) → 1 < j → j ≤ t .size → t .size ≤ 4096 → ClassedFrom κ t (row 16384 rows) j
-    → ClassIs κ t (row 16384 rows) (j - 1) r → ClassedFrom κ t (row 16384 (set rows (16384 + (j - 1)) r)) (j - 1)
-rows-class κ t rows j r low high few c k =
-    subst (λ (l : List ℕ). ClassedFrom κ t l (j - 1)) (sym (row-set 16384 rows (j - 1) r (omega arith)))
-    (classed-step κ t (row 16384 rows) j r low high few c k)
+pub rows-family : (κ : ℕ → Class) (t : Table) (rows : List ℕ) (j r : ℕ) → 1 < j → j ≤ t .size → t .size ≤ 4096 → FamiliesFrom κ t (row 16384 rows) j
+    → FamilyIs κ t (row 16384 rows) (j - 1) r → FamiliesFrom κ t (row 16384 (set rows (16384 + (j - 1)) r)) (j - 1)
+rows-family κ t rows j r low high few c k =
+    subst (λ (l : List ℕ). FamiliesFrom κ t l (j - 1)) (sym (row-set 16384 rows (j - 1) r (omega arith)))
+    (families-step κ t (row 16384 rows) j r low high few c k)
 
 -- What `gather` gives
 pub record Gathered (classes tree old new : List ℕ) : Type 0 where
-  pub classed : Classed (classBy classes) (fileTable tree) (row 16384 new)
+  pub families : Families (classBy classes) (fileTable tree) (row 16384 new)
   pub root : getD (row 16384 new) 0 0 ≡ 0
   pub only : Only 16384 20480 old new
 
 pub gathered-so : (classes tree old new : List ℕ) (i : ℕ) → TreeBytes classes tree → i ≤ 1
-    → ClassedFrom (classBy classes) (fileTable tree) (row 16384 new) i → Only 16384 20480 old new → Gathered classes tree old new
+    → FamiliesFrom (classBy classes) (fileTable tree) (row 16384 new) i → Only 16384 20480 old new → Gathered classes tree old new
 gathered-so classes tree old new i b h c o =
     record {
-      classed = classed-all (classBy classes) (fileTable tree) (bytes-tree b) (row 16384 new) i h c (parents-smaller b);
+      families = families-all (classBy classes) (fileTable tree) (bytes-tree b) (row 16384 new) i h c (parents-smaller b);
       root = c .root;
       only = o;
     }
@@ -124,17 +124,17 @@ named-so low old new count n h g s =
     let e : n ≡ count = omega arith in
     record { named = subst (NamedTo (row 16384 old) low (row 16384 new)) e (s .named); only = s .only }
 
--- The next node of each class in the row at 20,480
-pub rows-chain : (count : ℕ) (class last rows : List ℕ) (j p x : ℕ) → 1 < j → j ≤ count → count ≤ 4096 → length last ≡ 4096 → length rows ≡ 24576
-    → p ≡ getD class (j - 1) 0 → p < count → x ≡ getD last p 0 → LinkedFrom (byClass count class) j last (row 20480 rows)
-    → LinkedFrom (byClass count class) (j - 1) (set last p (j - 1)) (row 20480 (set rows (20480 + (j - 1)) x))
-rows-chain count class last rows j p x low high few l m e h f k =
-    subst (LinkedFrom (byClass count class) (j - 1) (set last p (j - 1)))
+-- The next node of each family in the row at 20,480
+pub rows-chain : (count : ℕ) (family last rows : List ℕ) (j p x : ℕ) → 1 < j → j ≤ count → count ≤ 4096 → length last ≡ 4096 → length rows ≡ 24576
+    → p ≡ getD family (j - 1) 0 → p < count → x ≡ getD last p 0 → LinkedFrom (byFamily count family) j last (row 20480 rows)
+    → LinkedFrom (byFamily count family) (j - 1) (set last p (j - 1)) (row 20480 (set rows (20480 + (j - 1)) x))
+rows-chain count family last rows j p x low high few l m e h f k =
+    subst (LinkedFrom (byFamily count family) (j - 1) (set last p (j - 1)))
     (sym (row-set 20480 rows (j - 1) x (omega arith) ∙ ap (set (row 20480 rows) (j - 1)) f))
-    (chain-step count class last (row 20480 rows) j p low high few l (row-long 20480 rows m (omega arith)) e h k)
+    (chain-step count family last (row 20480 rows) j p low high few l (row-long 20480 rows m (omega arith)) e h k)
 
 pub record Chained (count : ℕ) (old new : List ℕ) : Type 0 where
-  pub chained : Nexts (byClass count (row 16384 old)) (row 20480 new)
+  pub chained : Nexts (byFamily count (row 16384 old)) (row 20480 new)
   pub only : Only 20480 24576 old new
 
 -- What `link` gives
@@ -154,13 +154,13 @@ module _ (classes tree low r₀ r₁ r₂ r₃ r₄ r₅ r₆ : List ℕ) (count
   kept : {a b : List ℕ} (v : ℕ) → a ≡ b → getD a v 0 ≡ getD b v 0
   kept v e = ap (λ (l : List ℕ). getD l v 0) e
 
-  -- a row before the classes
+  -- a row before the families
   early : (k : ℕ) → k + 4096 ≤ 16384 → row k r₆ ≡ row k r₃
   early k h = chained .only .before k (omega arith) ∙ named .only .before k h ∙ gathered .only .before k h
 
   pub rows-prepared : Prepared classes tree r₆
   rows-prepared =
-      let c = classified bytes (gathered .classed) size lows (named .named) in
+      let c = familiesNamed bytes (gathered .families) size lows (named .named) in
       let e : row 16384 r₆ ≡ row 16384 r₅ = chained .only .before 16384 (omega arith) in
       record {
         tree = bytes;
@@ -168,20 +168,20 @@ module _ (classes tree low r₀ r₁ r₂ r₃ r₄ r₅ r₆ : List ℕ) (count
         labels = λ v h. kept v (early 4096 (omega arith) ∙ linked .only .before 4096 (omega arith)) ∙ labels .each v h;
         links = subst (λ (r : List ℕ). Linked (fileTable tree) r (row 12288 r₆)) (sym (early 8192 (omega arith)))
             (subst (Linked (fileTable tree) (row 8192 r₃)) (sym (early 12288 (omega arith))) (linked .links));
-        classed = subst (Classed (classBy classes) (fileTable tree)) (sym e) (c .0);
+        families = subst (Families (classBy classes) (fileTable tree)) (sym e) (c .0);
         smallest = subst (Smallest (classBy classes) (fileTable tree)) (sym e) (c .1);
-        chained = subst (λ (r : List ℕ). Nexts (byClass (fileTable tree .size) r) (row 20480 r₆)) (sym e)
-            (subst (λ (n : ℕ). Nexts (byClass n (row 16384 r₅)) (row 20480 r₆)) size (chained .chained));
+        chained = subst (λ (r : List ℕ). Nexts (byFamily (fileTable tree .size) r) (row 20480 r₆)) (sym e)
+            (subst (λ (n : ℕ). Nexts (byFamily n (row 16384 r₅)) (row 20480 r₆)) size (chained .chained));
       }
 
--- Child links stay while classes are written
-pub ready-kept : (classes tree old new : List ℕ) → Only 16384 20480 old new → Ready classes tree (row 8192 old) (row 12288 old)
-    → Ready classes tree (row 8192 new) (row 12288 new)
+-- Child links stay while families are written
+pub ready-kept : (classes tree old new : List ℕ) → Only 16384 20480 old new → LinkedTree classes tree (row 8192 old) (row 12288 old)
+    → LinkedTree classes tree (row 8192 new) (row 12288 new)
 ready-kept classes tree old new o r =
-    subst (λ (l : List ℕ). Ready classes tree l (row 12288 new)) (sym (o .before 8192 (omega arith)))
-    (subst (Ready classes tree (row 8192 old)) (sym (o .before 12288 (omega arith))) r)
+    subst (λ (l : List ℕ). LinkedTree classes tree l (row 12288 new)) (sym (o .before 8192 (omega arith)))
+    (subst (LinkedTree classes tree (row 8192 old)) (sym (o .before 12288 (omega arith))) r)
 
--- the root's class
+-- the root's family
 pub only-root : (rows : List ℕ) → length rows ≡ 24576 → Only 16384 20480 rows (set rows 16384 0)
 only-root rows l = only-set 16384 20480 rows rows 16384 0 (omega arith) (omega arith) (record { long = l; before = λ k h. refl; behind = λ k h. refl })
 
@@ -190,6 +190,6 @@ pub chain-fits : {classes tree low r₃ r₄ r₅ : List ℕ} {count : ℕ} → 
     → LowFrom (row 16384 r₄) low count 1 → Named low r₄ r₅ count
     → (0 < count) × (count ≤ 4096) × ((x : ℕ) → x < count → getD (row 16384 r₅) x 0 < count) × (length r₅ ≡ 24576)
 chain-fits b e g l n =
-    let c = classified b (g .classed) e l (n .named) in
+    let c = familiesNamed b (g .families) e l (n .named) in
     let f = count-fits b (c .0) e in
     (f .0, f .1, f .2, n .only .long)

@@ -1,4 +1,4 @@
--- The classes, found from the back: a node is of the class of a later node that is equal to it, or leads a class of its own. One law for
+-- The families, found from the back: a node is of the family of a later node that is equal to it, or leads a family of its own. One law for
 -- each return.
 use Prim.Native.Nat.{ℕ, _+_, _-_, _/_, _%_, _<_, _≤_}
 use mathlib.Core.Path.{_≡_, sym, _∙_, ap, subst}
@@ -13,11 +13,11 @@ use Rattle.meaning.specs.Paths.{Class}
 use Rattle.meaning.specs.Trees.{Table, IsTree, Equal}
 use Rattle.theory_trees.specs.Below.{ParentsSmaller}
 use Rattle.theory_trees.specs.Laws.{equal-symmetric, equal-transitive, equal-reflexive, equal-label}
-use Rattle.tree_table.specs.Decides.{Decides}
+use Rattle.tree_table.specs.Tells.{Tells}
 use Rattle.tree_table.specs.Links.{Nexts}
 use Rattle.tree_weights.specs.Weights.{Weighed}
-use Rattle.tree_rows.specs.Classed.{Classed, ClassedFrom}
-use Rattle.tree_rows.specs.Chain.{byClass, next-in}
+use Rattle.tree_rows.specs.Families.{Families, FamiliesFrom}
+use Rattle.tree_rows.specs.Chain.{byFamily, next-in}
 
 -- The weights of the first nodes, sorted into as many buckets as there are nodes
 pub record Sorted (weight bucket : List ℕ) (count n : ℕ) : Type 0 where
@@ -37,16 +37,16 @@ sorted-more weight bucket count n b h s e =
 
 module _ (κ : ℕ → Class) (t : Table) (x y : ℕ) where
   pub weighs-other : (weight : List ℕ) → Weighed κ t weight → x < t .size → y < t .size → (getD weight x 0 ≡ getD weight y 0 → ⊥)
-      → Decides (Equal κ t x y) false
+      → Tells (Equal κ t x y) false
   weighs-other weight w ix iy n = record { yes = λ h. absurd (false≢true h); no = λ h q. n (w .equal x y ix iy q) }
 
--- The class of x, where the later nodes have theirs
-pub record ClassIs (κ : ℕ → Class) (t : Table) (class : List ℕ) (x r : ℕ) : Type 0 where
+-- The family of x, where the later nodes have theirs
+pub record FamilyIs (κ : ℕ → Class) (t : Table) (family : List ℕ) (x r : ℕ) : Type 0 where
   pub within : x ≤ r
   pub inside : r < t .size
   pub equal : Equal κ t r x
-  pub self : x < r → getD class r 0 ≡ r
-  pub one : (k : ℕ) → x < k → k < t .size → Equal κ t k x → getD class k 0 ≡ r
+  pub self : x < r → getD family r 0 ≡ r
+  pub one : (k : ℕ) → x < k → k < t .size → Equal κ t k x → getD family k 0 ≡ r
 
 -- At link y of the bucket of x: a later node equal to x is y or a later one
 pub record Seeking (κ : ℕ → Class) (t : Table) (bucket : List ℕ) (x y : ℕ) : Type 0 where
@@ -55,7 +55,7 @@ pub record Seeking (κ : ℕ → Class) (t : Table) (bucket : List ℕ) (x y : �
   pub later : (k : ℕ) → x < k → k < t .size → Equal κ t x k → (0 < y) × (y ≤ k)
 
 module _ (κ : ℕ → Class) (t : Table) (weight bucket chained : List ℕ) (w : Weighed κ t weight) (sorted : Sorted weight bucket (t .size) (t .size))
-    (links : Nexts (byClass (t .size) bucket) chained) where
+    (links : Nexts (byFamily (t .size) bucket) chained) where
   same-bucket : (x k : ℕ) → x < t .size → k < t .size → Equal κ t x k → getD bucket k 0 ≡ getD bucket x 0
   same-bucket x k h g q =
       sorted .each k g ∙ ap (λ (n : ℕ). n / 4096 % t .size) (sym (w .equal x k h g q)) ∙ sym (sorted .each x h)
@@ -69,7 +69,7 @@ module _ (κ : ℕ → Class) (t : Table) (weight bucket chained : List ℕ) (w 
         later = λ k g i q. l .least k g i (same-bucket x k h i q);
       }
 
-  pub seeking-next : (x y n : ℕ) (r : Bool) → x < t .size → 0 < y → Seeking κ t bucket x y → Decides (Equal κ t x y) r → r ≡ false
+  pub seeking-next : (x y n : ℕ) (r : Bool) → x < t .size → 0 < y → Seeking κ t bucket x y → Tells (Equal κ t x y) r → r ≡ false
       → n ≡ getD chained y 0 → Seeking κ t bucket x n
   seeking-next x y n r h p s d z e =
       let m = s .member p in
@@ -84,10 +84,10 @@ module _ (κ : ℕ → Class) (t : Table) (weight bucket chained : List ℕ) (w 
       after k g i q (yes c) = absurd (d .no z (subst (Equal κ t x) c q))
       after k g i q (no c) = let b = s .later k g i q .1 in omega arith
 
-module _ (κ : ℕ → Class) (t : Table) (small : ParentsSmaller t) (class bucket : List ℕ) (x : ℕ) (h : x < t .size) (c : ClassedFrom κ t class (x + 1)) where
-  pub class-met : (y k : ℕ) (r : Bool) → 0 < y → Seeking κ t bucket x y → Decides (Equal κ t x y) r → r ≡ true → k ≡ getD class y 0
-      → ClassIs κ t class x k
-  class-met y k r p s d z e =
+module _ (κ : ℕ → Class) (t : Table) (small : ParentsSmaller t) (family bucket : List ℕ) (x : ℕ) (h : x < t .size) (c : FamiliesFrom κ t family (x + 1)) where
+  pub family-met : (y k : ℕ) (r : Bool) → 0 < y → Seeking κ t bucket x y → Tells (Equal κ t x y) r → r ≡ true → k ≡ getD family y 0
+      → FamilyIs κ t family x k
+  family-met y k r p s d z e =
       let q = d .yes z in
       let m = s .member p .0 in
       let i = s .inside in
@@ -96,12 +96,12 @@ module _ (κ : ℕ → Class) (t : Table) (small : ParentsSmaller t) (class buck
         within = omega arith;
         inside = let b = c .inside y (omega arith) i in omega arith;
         equal = equal-transitive (subst (λ (n : ℕ). Equal κ t n y) (sym e) (c .equal y (omega arith) i)) (equal-symmetric q);
-        self = λ g. ap (λ (n : ℕ). getD class n 0) e ∙ c .self y (omega arith) i ∙ sym e;
+        self = λ g. ap (λ (n : ℕ). getD family n 0) e ∙ c .self y (omega arith) i ∙ sym e;
         one = λ n g j w. c .one n y (omega arith) j (omega arith) i (equal-transitive w q) ∙ sym e;
       }
 
-  pub class-own : (y : ℕ) → y ≡ 0 → Seeking κ t bucket x y → ClassIs κ t class x x
-  class-own y z s =
+  pub family-own : (y : ℕ) → y ≡ 0 → Seeking κ t bucket x y → FamilyIs κ t family x x
+  family-own y z s =
       record {
         within = omega arith;
         inside = h;
@@ -110,28 +110,28 @@ module _ (κ : ℕ → Class) (t : Table) (small : ParentsSmaller t) (class buck
         one = λ k g i q. absurd (let b = s .later k g i (equal-symmetric q) .0 in omega arith);
       }
 
-module _ (κ : ℕ → Class) (t : Table) (class : List ℕ) (j r : ℕ) (low : 1 < j) (high : j ≤ t .size) (few : t .size ≤ 4096)
-    (c : ClassedFrom κ t class j) (is : ClassIs κ t class (j - 1) r) where
-  now-there : getD (set class (j - 1) r) (j - 1) 0 ≡ r
-  now-there = getD-set-same class (j - 1) r 0 (let l = c .long in omega arith)
+module _ (κ : ℕ → Class) (t : Table) (family : List ℕ) (j r : ℕ) (low : 1 < j) (high : j ≤ t .size) (few : t .size ≤ 4096)
+    (c : FamiliesFrom κ t family j) (is : FamilyIs κ t family (j - 1) r) where
+  now-there : getD (set family (j - 1) r) (j - 1) 0 ≡ r
+  now-there = getD-set-same family (j - 1) r 0 (let l = c .long in omega arith)
 
-  still : (u : ℕ) → (u ≡ j - 1 → ⊥) → getD (set class (j - 1) r) u 0 ≡ getD class u 0
-  still u h = getD-set-other class (j - 1) u r 0 h
+  still : (u : ℕ) → (u ≡ j - 1 → ⊥) → getD (set family (j - 1) r) u 0 ≡ getD family u 0
+  still u h = getD-set-other family (j - 1) u r 0 h
 
-  there : (u : ℕ) → u ≡ j - 1 → getD (set class (j - 1) r) u 0 ≡ r
-  there u e = ap (λ (k : ℕ). getD (set class (j - 1) r) k 0) e ∙ now-there
+  there : (u : ℕ) → u ≡ j - 1 → getD (set family (j - 1) r) u 0 ≡ r
+  there u e = ap (λ (k : ℕ). getD (set family (j - 1) r) k 0) e ∙ now-there
 
-  own-class : getD (set class (j - 1) r) r 0 ≡ r
-  own-class = go (ℕ-discrete r (j - 1))
+  own-family : getD (set family (j - 1) r) r 0 ≡ r
+  own-family = go (ℕ-discrete r (j - 1))
     where
-      go : Dec (r ≡ j - 1) → getD (set class (j - 1) r) r 0 ≡ r
+      go : Dec (r ≡ j - 1) → getD (set family (j - 1) r) r 0 ≡ r
       go (yes e) = there r e
       go (no n) = still r n ∙ is .self (let w = is .within in omega arith)
 
-  pub classed-step : ClassedFrom κ t (set class (j - 1) r) (j - 1)
-  classed-step =
+  pub families-step : FamiliesFrom κ t (set family (j - 1) r) (j - 1)
+  families-step =
       record {
-        long = length-set class (j - 1) r ∙ c .long;
+        long = length-set family (j - 1) r ∙ c .long;
         root = still 0 (λ e. omega arith) ∙ c .root;
         above = λ u h g. up u h g (ℕ-discrete u (j - 1));
         inside = λ u h g. within u h g (ℕ-discrete u (j - 1));
@@ -140,30 +140,30 @@ module _ (κ : ℕ → Class) (t : Table) (class : List ℕ) (j r : ℕ) (low : 
         one = λ u v h g k l q. single u v h g k l q (ℕ-discrete u (j - 1)) (ℕ-discrete v (j - 1));
       }
     where
-      up : (u : ℕ) → j - 1 ≤ u → u < t .size → Dec (u ≡ j - 1) → u ≤ getD (set class (j - 1) r) u 0
+      up : (u : ℕ) → j - 1 ≤ u → u < t .size → Dec (u ≡ j - 1) → u ≤ getD (set family (j - 1) r) u 0
       up u h g (yes e) = let f = there u e in let w = is .within in omega arith
       up u h g (no n) = let s = still u n in let b = c .above u (omega arith) g in omega arith
 
-      within : (u : ℕ) → j - 1 ≤ u → u < t .size → Dec (u ≡ j - 1) → getD (set class (j - 1) r) u 0 < t .size
+      within : (u : ℕ) → j - 1 ≤ u → u < t .size → Dec (u ≡ j - 1) → getD (set family (j - 1) r) u 0 < t .size
       within u h g (yes e) = let f = there u e in let w = is .inside in omega arith
       within u h g (no n) = let s = still u n in let b = c .inside u (omega arith) g in omega arith
 
       led : (u : ℕ) → j - 1 ≤ u → u < t .size → Dec (u ≡ j - 1)
-          → getD (set class (j - 1) r) (getD (set class (j - 1) r) u 0) 0 ≡ getD (set class (j - 1) r) u 0
-      led u h g (yes e) = ap (λ (k : ℕ). getD (set class (j - 1) r) k 0) (there u e) ∙ own-class ∙ sym (there u e)
+          → getD (set family (j - 1) r) (getD (set family (j - 1) r) u 0) 0 ≡ getD (set family (j - 1) r) u 0
+      led u h g (yes e) = ap (λ (k : ℕ). getD (set family (j - 1) r) k 0) (there u e) ∙ own-family ∙ sym (there u e)
       led u h g (no n) =
           let s = still u n in
           let b = c .above u (omega arith) g in
-          ap (λ (k : ℕ). getD (set class (j - 1) r) k 0) s ∙ still (getD class u 0) (λ e. omega arith) ∙ c .self u (omega arith) g ∙ sym s
+          ap (λ (k : ℕ). getD (set family (j - 1) r) k 0) s ∙ still (getD family u 0) (λ e. omega arith) ∙ c .self u (omega arith) g ∙ sym s
 
-      alike : (u : ℕ) → j - 1 ≤ u → u < t .size → Dec (u ≡ j - 1) → Equal κ t (getD (set class (j - 1) r) u 0) u
+      alike : (u : ℕ) → j - 1 ≤ u → u < t .size → Dec (u ≡ j - 1) → Equal κ t (getD (set family (j - 1) r) u 0) u
       alike u h g (yes e) =
-          subst (λ (k : ℕ). Equal κ t (getD (set class (j - 1) r) k 0) k) (sym e)
+          subst (λ (k : ℕ). Equal κ t (getD (set family (j - 1) r) k 0) k) (sym e)
           (subst (λ (k : ℕ). Equal κ t k (j - 1)) (sym now-there) (is .equal))
       alike u h g (no n) = subst (λ (k : ℕ). Equal κ t k u) (sym (still u n)) (c .equal u (omega arith) g)
 
       single : (u v : ℕ) → j - 1 ≤ u → u < t .size → j - 1 ≤ v → v < t .size → Equal κ t u v → Dec (u ≡ j - 1) → Dec (v ≡ j - 1)
-          → getD (set class (j - 1) r) u 0 ≡ getD (set class (j - 1) r) v 0
+          → getD (set family (j - 1) r) u 0 ≡ getD (set family (j - 1) r) v 0
       single u v h g k l q (yes e) (yes f) = there u e ∙ sym (there v f)
       single u v h g k l q (yes e) (no m) =
           there u e ∙ sym (still v m ∙ is .one v (omega arith) l (equal-symmetric (subst (λ (n : ℕ). Equal κ t n v) e q)))
@@ -175,38 +175,38 @@ module _ (κ : ℕ → Class) (t : Table) (class : List ℕ) (j r : ℕ) (low : 
 pub apart : (κ : ℕ → Class) (t : Table) → IsTree κ t → (y : ℕ) → 0 < y → y < t .size → (x : ℕ) → x ≡ 0 → Equal κ t x y → ⊥
 apart κ t tree y p h x z q = tree .rest y p h .notRoot (sym (equal-label q) ∙ ap (λ (k : ℕ). t .label k) z ∙ tree .root)
 
-module _ (κ : ℕ → Class) (t : Table) (tree : IsTree κ t) (class : List ℕ) (i : ℕ) (low : i ≤ 1) (c : ClassedFrom κ t class i) where
-  pub classed-all : ParentsSmaller t → Classed κ t class
-  classed-all small =
+module _ (κ : ℕ → Class) (t : Table) (tree : IsTree κ t) (family : List ℕ) (i : ℕ) (low : i ≤ 1) (c : FamiliesFrom κ t family i) where
+  pub families-all : ParentsSmaller t → Families κ t family
+  families-all small =
       record {
         inside = λ x h. in-it x h (ℕ-discrete x 0);
         same = λ x y h g e. same-it x y h g e (ℕ-discrete x 0) (ℕ-discrete y 0);
         equal = λ x y h g q. equal-it x y h g q (ℕ-discrete x 0) (ℕ-discrete y 0);
       }
     where
-      zero-class : (x : ℕ) → x ≡ 0 → getD class x 0 ≡ 0
-      zero-class x z = ap (λ (k : ℕ). getD class k 0) z ∙ c .root
+      zero-family : (x : ℕ) → x ≡ 0 → getD family x 0 ≡ 0
+      zero-family x z = ap (λ (k : ℕ). getD family k 0) z ∙ c .root
 
-      in-it : (x : ℕ) → x < t .size → Dec (x ≡ 0) → getD class x 0 < t .size
-      in-it x h (yes z) = let e = zero-class x z in omega arith
+      in-it : (x : ℕ) → x < t .size → Dec (x ≡ 0) → getD family x 0 < t .size
+      in-it x h (yes z) = let e = zero-family x z in omega arith
       in-it x h (no n) = c .inside x (omega arith) h
 
-      same-it : (x y : ℕ) → x < t .size → y < t .size → getD class x 0 ≡ getD class y 0 → Dec (x ≡ 0) → Dec (y ≡ 0) → Equal κ t x y
+      same-it : (x y : ℕ) → x < t .size → y < t .size → getD family x 0 ≡ getD family y 0 → Dec (x ≡ 0) → Dec (y ≡ 0) → Equal κ t x y
       same-it x y h g e (yes z) (yes w) = subst (Equal κ t x) (z ∙ sym w) (equal-reflexive small x)
-      same-it x y h g e (yes z) (no m) = absurd (let a = zero-class x z in let b = c .above y (omega arith) g in omega arith)
-      same-it x y h g e (no n) (yes w) = absurd (let a = zero-class y w in let b = c .above x (omega arith) h in omega arith)
+      same-it x y h g e (yes z) (no m) = absurd (let a = zero-family x z in let b = c .above y (omega arith) g in omega arith)
+      same-it x y h g e (no n) (yes w) = absurd (let a = zero-family y w in let b = c .above x (omega arith) h in omega arith)
       same-it x y h g e (no n) (no m) =
           equal-transitive (equal-symmetric (c .equal x (omega arith) h))
           (subst (λ (k : ℕ). Equal κ t k y) (sym e) (c .equal y (omega arith) g))
 
-      equal-it : (x y : ℕ) → x < t .size → y < t .size → Equal κ t x y → Dec (x ≡ 0) → Dec (y ≡ 0) → getD class x 0 ≡ getD class y 0
-      equal-it x y h g q (yes z) (yes w) = ap (λ (k : ℕ). getD class k 0) (z ∙ sym w)
+      equal-it : (x y : ℕ) → x < t .size → y < t .size → Equal κ t x y → Dec (x ≡ 0) → Dec (y ≡ 0) → getD family x 0 ≡ getD family y 0
+      equal-it x y h g q (yes z) (yes w) = ap (λ (k : ℕ). getD family k 0) (z ∙ sym w)
       equal-it x y h g q (yes z) (no m) = absurd (apart κ t tree y (omega arith) g x z q)
       equal-it x y h g q (no n) (yes w) = absurd (apart κ t tree x (omega arith) h y w (equal-symmetric q))
       equal-it x y h g q (no n) (no m) = c .one x y (omega arith) h (omega arith) g q
 
-pub classed-at : (κ : ℕ → Class) (t : Table) (class : List ℕ) (j : ℕ) → 1 < j → ClassedFrom κ t class j → ClassedFrom κ t class (j - 1 + 1)
-classed-at κ t class j h c = let e : j ≡ j - 1 + 1 = omega arith in subst (ClassedFrom κ t class) e c
+pub families-at : (κ : ℕ → Class) (t : Table) (family : List ℕ) (j : ℕ) → 1 < j → FamiliesFrom κ t family j → FamiliesFrom κ t family (j - 1 + 1)
+families-at κ t family j h c = let e : j ≡ j - 1 + 1 = omega arith in subst (FamiliesFrom κ t family) e c
 
 pub sorted-none : (weight bucket : List ℕ) (count : ℕ) → length bucket ≡ 4096 → Sorted weight bucket count 0
 sorted-none weight bucket count l = record { long = l; each = λ x h. absurd (omega arith) }
@@ -217,8 +217,8 @@ sorted-all weight bucket count n h g s = let e : n ≡ count = omega arith in su
 pub sorted-at : (weight bucket : List ℕ) (count size : ℕ) → count ≡ size → Sorted weight bucket count count → Sorted weight bucket size size
 sorted-at weight bucket count size e s = subst (λ (n : ℕ). Sorted weight bucket n n) e s
 
-pub chained-at : (bucket chained : List ℕ) (count size : ℕ) → count ≡ size → Nexts (byClass count bucket) chained → Nexts (byClass size bucket) chained
-chained-at bucket chained count size e s = subst (λ (n : ℕ). Nexts (byClass n bucket) chained) e s
+pub chained-at : (bucket chained : List ℕ) (count size : ℕ) → count ≡ size → Nexts (byFamily count bucket) chained → Nexts (byFamily size bucket) chained
+chained-at bucket chained count size e s = subst (λ (n : ℕ). Nexts (byFamily n bucket) chained) e s
 
 pub sorted-inside : (weight bucket : List ℕ) (count : ℕ) → 0 < count → Sorted weight bucket count count → (x : ℕ) → x < count → getD bucket x 0 < count
 sorted-inside weight bucket count p s x h = let e = s .each x h in let m = mod-lt (getD weight x 0 / 4096) p in omega arith

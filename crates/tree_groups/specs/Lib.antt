@@ -1,4 +1,4 @@
--- Child links and classes in place in the rows of a tree.
+-- Child links and families in place in the rows of a tree.
 pub mod Leaders
 pub mod Lowest
 pub mod Only

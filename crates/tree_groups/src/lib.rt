@@ -1,12 +1,12 @@
-// The rows of a tree, filled in place: parents, labels, child links, the class of each node (the smallest node equal to it, found among nodes of the
-// same weight by `node_eq`, from the back), and the next node of its class.
+// The rows of a tree, filled in place: parents, labels, child links, the family of each node (the smallest node equal to it, found among nodes of the
+// same weight by `node_eq`, from the back), and the next node of its family.
 use read_record::limits::TREE_NODES;
 use tree_equal::node_eq;
 use tree_rows::fields::clear_row;
 use tree_rows::fields::put_labels;
 use tree_rows::fields::put_parents;
 use tree_rows::rows::ROWS;
-use tree_rows::rows::class_of;
+use tree_rows::rows::family_of;
 use tree_table::fields::parent;
 use tree_table::fields::size;
 use tree_table::tables::at;
@@ -18,14 +18,14 @@ ghost use Prim.Native.Nat.{ℕ, _+_, _<_, _≤_};
 ghost use lib.ListN.{length, getD};
 ghost use Rattle.meaning.specs.Trees.{Equal};
 ghost use Rattle.tree_table.specs.FileTable.{fileTable, classBy, TreeBytes};
-ghost use Rattle.tree_table.specs.Ready.{Ready};
+ghost use Rattle.tree_table.specs.LinkedTree.{LinkedTree};
 ghost use Rattle.tree_table.specs.Links.{Nexts};
-ghost use Rattle.tree_table.specs.Decides.{Decides};
-ghost use Rattle.tree_rows.specs.Classed.{ClassedFrom};
+ghost use Rattle.tree_table.specs.Tells.{Tells};
+ghost use Rattle.tree_rows.specs.Families.{FamiliesFrom};
 ghost use Rattle.tree_weights.specs.Weights.{Weighed};
-ghost use Rattle.tree_groups.specs.Leaders.{Sorted, ClassIs};
+ghost use Rattle.tree_groups.specs.Leaders.{Sorted, FamilyIs};
 ghost use Rattle.tree_groups.specs.Lowest.{LowFrom};
-ghost use Rattle.tree_rows.specs.Chain.{byClass};
+ghost use Rattle.tree_rows.specs.Chain.{byFamily};
 ghost use Rattle.tree_rows.specs.Rows.{row};
 ghost use Rattle.tree_rows.specs.Prepared.{Prepared};
 ghost use Rattle.tree_equal.specs.Marks.{Clean};
@@ -74,7 +74,7 @@ fn sort(weight: &[u32; TREE_NODES], count: usize) -> [u16; TREE_NODES]
 // To each node the next one of its bucket; 0 where there is none.
 fn chain(bucket: &[u16; TREE_NODES], count: usize) -> [u16; TREE_NODES]
     requires { ⌜ (0 < count) × (count ≤ 4096) × ((x : ℕ) → x < count → getD (now bucket) x 0 < count) ⌝ }
-    ensures { λ r. ⌜ Nexts (byClass count (now (bucket .entry))) r ⌝ }
+    ensures { λ r. ⌜ Nexts (byFamily count (now (bucket .entry))) r ⌝ }
 {
     let mut last = blank();
     let mut same = blank();
@@ -98,10 +98,10 @@ fn alike(
     x: usize,
     y: usize,
 ) -> bool
-    requires { ⌜ Ready (now classes) (now tree) (row 8192 (now rows)) (row 12288 (now rows)) × Weighed (classBy (now classes)) (fileTable (now tree)) (now weight) ⌝ }
+    requires { ⌜ LinkedTree (now classes) (now tree) (row 8192 (now rows)) (row 12288 (now rows)) × Weighed (classBy (now classes)) (fileTable (now tree)) (now weight) ⌝ }
     requires { ⌜ (x < fileTable (now tree) .size) × (y < fileTable (now tree) .size) × (x < y)
-        × ClassedFrom (classBy (now classes)) (fileTable (now tree)) (row 16384 (now rows)) (x + 1) × Clean (now marks) ⌝ }
-    ensures { λ r. ⌜ Decides (Equal (classBy (now (classes .entry))) (fileTable (now (tree .entry))) x y) r × Clean (now (marks .exit)) ⌝ }
+        × FamiliesFrom (classBy (now classes)) (fileTable (now tree)) (row 16384 (now rows)) (x + 1) × Clean (now marks) ⌝ }
+    ensures { λ r. ⌜ Tells (Equal (classBy (now (classes .entry))) (fileTable (now (tree .entry))) x y) r × Clean (now (marks .exit)) ⌝ }
 {
     if weight[x] != weight[y] {
         return false;
@@ -109,7 +109,7 @@ fn alike(
     node_eq(tree, classes, rows, marks, x + 1, x, y)
 }
 
-// The class of the next node in the bucket that is equal to x; x itself where there is none.
+// The family of the next node in the bucket that is equal to x; x itself where there is none.
 fn leader(
     tree: &[u8],
     classes: &[u8; 256],
@@ -120,25 +120,25 @@ fn leader(
     chained: &[u16; TREE_NODES],
     x: usize,
 ) -> usize
-    requires { ⌜ Ready (now classes) (now tree) (row 8192 (now rows)) (row 12288 (now rows)) × Weighed (classBy (now classes)) (fileTable (now tree)) (now weight) ⌝ }
-    requires { ⌜ Sorted (now weight) (now bucket) (fileTable (now tree) .size) (fileTable (now tree) .size) × Nexts (byClass (fileTable (now tree) .size) (now bucket)) (now chained) ⌝ }
-    requires { ⌜ ClassedFrom (classBy (now classes)) (fileTable (now tree)) (row 16384 (now rows)) (x + 1) × (0 < x) × (x < fileTable (now tree) .size)
+    requires { ⌜ LinkedTree (now classes) (now tree) (row 8192 (now rows)) (row 12288 (now rows)) × Weighed (classBy (now classes)) (fileTable (now tree)) (now weight) ⌝ }
+    requires { ⌜ Sorted (now weight) (now bucket) (fileTable (now tree) .size) (fileTable (now tree) .size) × Nexts (byFamily (fileTable (now tree) .size) (now bucket)) (now chained) ⌝ }
+    requires { ⌜ FamiliesFrom (classBy (now classes)) (fileTable (now tree)) (row 16384 (now rows)) (x + 1) × (0 < x) × (x < fileTable (now tree) .size)
         × Clean (now marks) ⌝ }
-    ensures { λ r. ⌜ ClassIs (classBy (now (classes .entry))) (fileTable (now (tree .entry))) (row 16384 (now (rows .entry))) x r × Clean (now (marks .exit)) ⌝ }
+    ensures { λ r. ⌜ FamilyIs (classBy (now (classes .entry))) (fileTable (now (tree .entry))) (row 16384 (now (rows .entry))) x r × Clean (now (marks .exit)) ⌝ }
 {
     let mut y = at(chained, x);
     while y != 0 {
         if alike(tree, classes, rows, marks, weight, x, y) {
-            return class_of(rows, y);
+            return family_of(rows, y);
         }
         y = at(chained, y);
     }
     x
 }
 
-// A class for each node, from the back.
+// A family for each node, from the back.
 fn gather(tree: &[u8], classes: &[u8; 256], weight: &[u32; TREE_NODES], rows: &mut [u16; ROWS])
-    requires { ⌜ Ready (now classes) (now tree) (row 8192 (now rows)) (row 12288 (now rows)) × Weighed (classBy (now classes)) (fileTable (now tree)) (now weight) × (length (now rows) ≡ 24576) ⌝ }
+    requires { ⌜ LinkedTree (now classes) (now tree) (row 8192 (now rows)) (row 12288 (now rows)) × Weighed (classBy (now classes)) (fileTable (now tree)) (now weight) × (length (now rows) ≡ 24576) ⌝ }
     ensures { λ _. ⌜ Gathered (now (classes .entry)) (now (tree .entry)) (now (rows .entry)) (now (rows .exit)) ⌝ }
 {
     let count = size(tree);
@@ -163,7 +163,7 @@ fn gather(tree: &[u8], classes: &[u8; 256], weight: &[u32; TREE_NODES], rows: &m
     }
 }
 
-// Of each class its smallest node.
+// Of each family its smallest node.
 fn lowest(rows: &[u16; ROWS], count: usize) -> [u16; TREE_NODES]
     requires { ⌜ (0 < count) × (count ≤ 4096) × ((x : ℕ) → x < count → getD (row 16384 (now rows)) x 0 < count) ⌝ }
     ensures { λ r. ⌜ LowFrom (row 16384 (now (rows .entry))) r count 1 ⌝ }
@@ -172,13 +172,13 @@ fn lowest(rows: &[u16; ROWS], count: usize) -> [u16; TREE_NODES]
     let mut x = count;
     while 1 < x {
         x -= 1;
-        let own = class_of(rows, x);
+        let own = family_of(rows, x);
         low[own] = x as u16;
     }
     low
 }
 
-// Each class by its smallest node, in place.
+// Each family by its smallest node, in place.
 fn name(low: &[u16; TREE_NODES], count: usize, rows: &mut [u16; ROWS])
     requires { ⌜ (0 < count) × (count ≤ 4096) × ((x : ℕ) → x < count → getD (row 16384 (now rows)) x 0 < count) ⌝ }
     requires { ⌜ (length (now rows) ≡ 24576) × (getD (row 16384 (now rows)) 0 0 ≡ 0) ⌝ }
@@ -186,14 +186,14 @@ fn name(low: &[u16; TREE_NODES], count: usize, rows: &mut [u16; ROWS])
 {
     let mut x = 1;
     while x < count {
-        let own = class_of(rows, x);
+        let own = family_of(rows, x);
         rows[CLASS + x] = low[own];
         x += 1;
     }
 }
 
-// To each node the next one of its class; 0 where there is none.
-fn chain_classes(count: usize, rows: &mut [u16; ROWS])
+// To each node the next one of its family; 0 where there is none.
+fn chain_families(count: usize, rows: &mut [u16; ROWS])
     requires { ⌜ (0 < count) × (count ≤ 4096) × ((x : ℕ) → x < count → getD (row 16384 (now rows)) x 0 < count) × (length (now rows) ≡ 24576) ⌝ }
     ensures { λ _. ⌜ Chained count (now (rows .entry)) (now (rows .exit)) ⌝ }
 {
@@ -201,7 +201,7 @@ fn chain_classes(count: usize, rows: &mut [u16; ROWS])
     let mut x = count;
     while 1 < x {
         x -= 1;
-        let own = class_of(rows, x);
+        let own = family_of(rows, x);
         rows[SAME + x] = last[own];
         last[own] = x as u16;
     }
@@ -220,5 +220,5 @@ pub fn prepare(tree: &[u8], classes: &[u8; 256], rows: &mut [u16; ROWS])
     gather(tree, classes, &weight, rows);
     let low = lowest(rows, count);
     name(&low, count, rows);
-    chain_classes(count, rows);
+    chain_families(count, rows);
 }

@@ -11,7 +11,7 @@ use Rattle.meaning.specs.Lists.{Each, end, also, every}
 use Rattle.meaning.specs.Paths.{Class, simple}
 use Rattle.meaning.specs.Trees.{Table}
 use Rattle.meaning.specs.Keys.{EqualPair}
-use Rattle.tree_table.specs.Decides.{Decides}
+use Rattle.tree_table.specs.Tells.{Tells}
 
 -- each of a list, by their numbers
 module _ {Q : List ℕ → Type 0} where
@@ -43,7 +43,7 @@ module _ (κ : ℕ → Class) (t : Table) (a b : ℕ) (paths : List (List ℕ)) 
   pub agree-none : Agree κ t a b paths 0
   agree-none = record { each = λ k h. absurd (omega arith) }
 
-  pub agree-more : (i : ℕ) (r : Bool) → Agree κ t a b paths i → Decides (EqualPair κ t a b (getD paths i [])) r → r ≡ true
+  pub agree-more : (i : ℕ) (r : Bool) → Agree κ t a b paths i → Tells (EqualPair κ t a b (getD paths i [])) r → r ≡ true
       → Agree κ t a b paths (i + 1)
   agree-more i r g d e = record { each = λ k h. go k h (ℕ-discrete k i) }
     where
@@ -51,9 +51,9 @@ module _ (κ : ℕ → Class) (t : Table) (a b : ℕ) (paths : List (List ℕ)) 
       go k h (yes z) = subst (λ (n : ℕ). EqualPair κ t a b (getD paths n [])) (sym z) (d .yes e)
       go k h (no n) = g .each k (omega arith)
 
-  pub agree-all : (i : ℕ) → length paths ≤ i → Agree κ t a b paths i → Decides (Each (EqualPair κ t a b) paths) true
+  pub agree-all : (i : ℕ) → length paths ≤ i → Agree κ t a b paths i → Tells (Each (EqualPair κ t a b) paths) true
   agree-all i h g = record { yes = λ e. each-all paths (λ k l. g .each k (omega arith)); no = λ e. absurd (true≢false e) }
 
-  pub agree-fails : (i : ℕ) (r : Bool) → i < length paths → Decides (EqualPair κ t a b (getD paths i [])) r → r ≡ false
-      → Decides (Each (EqualPair κ t a b) paths) false
+  pub agree-fails : (i : ℕ) (r : Bool) → i < length paths → Tells (EqualPair κ t a b (getD paths i [])) r → r ≡ false
+      → Tells (Each (EqualPair κ t a b) paths) false
   agree-fails i r h d e = record { yes = λ f. absurd (false≢true f); no = λ f w. d .no e (each-one w i h) }

@@ -1,4 +1,4 @@
-// What the search remembers for a key, in two rows of 4,096: to each number the target it was looked at for last, and marks at classes.
+// What the search remembers for a key, in two rows of 4,096: to each number the target it was looked at for last, and marks at families.
 use tree_table::tables::wide;
 ghost use mathlib.Core.Path.{_≡_};
 ghost use Prim.Native.Nat.{_+_, _<_, _≤_};

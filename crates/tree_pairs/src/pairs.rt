@@ -1,4 +1,4 @@
-// Value-equal pairs below two nodes: the classes of the nodes that a key path reaches from b are marked, then a mark is looked for along the nodes it
+// Value-equal pairs below two nodes: the families of the nodes that a key path reaches from b are marked, then a mark is looked for along the nodes it
 // reaches from a.
 use crate::memo::MARKS;
 use crate::memo::MEMO;
@@ -8,7 +8,7 @@ use tree_rows::hung::HUNG;
 use tree_rows::hung::first_hung;
 use tree_rows::hung::next_hung;
 use tree_rows::rows::ROWS;
-use tree_rows::rows::class_of;
+use tree_rows::rows::family_of;
 ghost use mathlib.Core.Path.{_≡_};
 ghost use mathlib.Core.List.{[]};
 ghost use Prim.Native.Nat.{_+_, _*_, _<_};
@@ -17,7 +17,7 @@ ghost use Rattle.meaning.specs.Lists.{Each};
 ghost use Rattle.meaning.specs.Keys.{EqualPair};
 ghost use Rattle.meaning.specs.Records.{keyIn};
 ghost use Rattle.tree_table.specs.FileTable.{fileTable, classBy};
-ghost use Rattle.tree_table.specs.Decides.{Decides};
+ghost use Rattle.tree_table.specs.Tells.{Tells};
 ghost use Rattle.tree_rows.specs.Rows.{row};
 ghost use Rattle.tree_pairs.specs.Marks.{Hanging, Marked, Stamped};
 
@@ -29,7 +29,7 @@ fn stamp(i: usize, b: usize) -> usize
     4 * b + i + 1
 }
 
-// Marks the class of each node that key path i reaches from b.
+// Marks the family of each node that key path i reaches from b.
 fn mark(
     tree: &[u8],
     classes: &[u8; 256],
@@ -48,13 +48,13 @@ fn mark(
     let own = stamp(i, b);
     let mut y = first_hung(hung, i, b);
     while y != 0 {
-        let class = class_of(rows, y);
-        memo[MARKS + class] = own as u16;
+        let family = family_of(rows, y);
+        memo[MARKS + family] = own as u16;
         y = next_hung(hung, i, y);
     }
 }
 
-// Key path i reaches a node of a marked class from a.
+// Key path i reaches a node of a marked family from a.
 fn meets(
     tree: &[u8],
     classes: &[u8; 256],
@@ -68,13 +68,13 @@ fn meets(
 ) -> bool
     requires { ⌜ Hanging (now classes) (now tree) (now rows) (now hung) (now body) × (i < length (keyIn (now body) .paths)) × (a < b) × (b < fileTable (now tree) .size) ⌝ }
     requires { ⌜ Stamped (fileTable (now tree)) (row 16384 (now rows)) (keyIn (now body) .paths) i b (now memo) ⌝ }
-    ensures { λ r. ⌜ Decides (EqualPair (classBy (now (classes .entry))) (fileTable (now (tree .entry))) a b (getD (keyIn (now (body .entry)) .paths) i [])) r ⌝ }
+    ensures { λ r. ⌜ Tells (EqualPair (classBy (now (classes .entry))) (fileTable (now (tree .entry))) a b (getD (keyIn (now (body .entry)) .paths) i [])) r ⌝ }
 {
     let wanted = stamp(i, b);
     let mut x = first_hung(hung, i, a);
     while x != 0 {
-        let class = class_of(rows, x);
-        if recall(memo, MARKS, class) == wanted {
+        let family = family_of(rows, x);
+        if recall(memo, MARKS, family) == wanted {
             return true;
         }
         x = next_hung(hung, i, x);
@@ -96,7 +96,7 @@ fn agree(
 ) -> bool
     requires { ⌜ Hanging (now classes) (now tree) (now rows) (now hung) (now body) × (i < length (keyIn (now body) .paths)) × (a < b) × (b < fileTable (now tree) .size) ⌝ }
     requires { ⌜ Marked (fileTable (now tree)) (row 16384 (now rows)) (keyIn (now body) .paths) (now memo) ⌝ }
-    ensures { λ r. ⌜ Decides (EqualPair (classBy (now (classes .entry))) (fileTable (now (tree .entry))) a b (getD (keyIn (now (body .entry)) .paths) i [])) r
+    ensures { λ r. ⌜ Tells (EqualPair (classBy (now (classes .entry))) (fileTable (now (tree .entry))) a b (getD (keyIn (now (body .entry)) .paths) i [])) r
         × Marked (fileTable (now (tree .entry))) (row 16384 (now (rows .entry))) (keyIn (now (body .entry)) .paths) (now (memo .exit))
         × (row 0 (now (memo .exit)) ≡ row 0 (now (memo .entry))) ⌝ }
 {
@@ -117,7 +117,7 @@ pub fn agree_all(
 ) -> bool
     requires { ⌜ Hanging (now classes) (now tree) (now rows) (now hung) (now body) × (a < b) × (b < fileTable (now tree) .size) ⌝ }
     requires { ⌜ Marked (fileTable (now tree)) (row 16384 (now rows)) (keyIn (now body) .paths) (now memo) ⌝ }
-    ensures { λ r. ⌜ Decides (Each (EqualPair (classBy (now (classes .entry))) (fileTable (now (tree .entry))) a b) (keyIn (now (body .entry)) .paths)) r
+    ensures { λ r. ⌜ Tells (Each (EqualPair (classBy (now (classes .entry))) (fileTable (now (tree .entry))) a b) (keyIn (now (body .entry)) .paths)) r
         × Marked (fileTable (now (tree .entry))) (row 16384 (now (rows .entry))) (keyIn (now (body .entry)) .paths) (now (memo .exit))
         × (row 0 (now (memo .exit)) ≡ row 0 (now (memo .entry))) ⌝ }
 {

@@ -1,6 +1,6 @@
 -- Tables in rows of one flat array, and the rows of a tree.
 pub mod Rows
-pub mod Classed
+pub mod Families
 pub mod Chain
 pub mod Prepared
 pub mod Hung

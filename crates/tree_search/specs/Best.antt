@@ -11,7 +11,6 @@ use Rattle.meaning.specs.Paths.{Class}
 use Rattle.meaning.specs.Trees.{Table, IsTree}
 use Rattle.meaning.specs.Keys.{Key, Breaks}
 use Rattle.theory_trees.specs.Reach.{reached-inside}
-use Rattle.tree_table.specs.Decides.{Decides}
 use Rattle.tree_contexts.specs.Tops.{Tops, tops-at}
 use Rattle.theory_trees.specs.Agreeing.{Agreeing, swap-agreeing}
 use Rattle.theory_trees.specs.Witness.{FirstTargets}
@@ -166,26 +165,6 @@ module _ (κ : ℕ → Class) (t : Table) (key : Key) (tops : List ℕ) (tree : 
 
   pub first-none : (x y z : ℕ) → 4096 ≤ q → FirstBy κ t key false x y z
   first-none x y z h = record { yes = λ e. absurd (false≢true e); no = λ e. best-kept κ t key tops tree few highest n q a b all s h }
-
--- the answer decides whether the tree breaks the key
-pub first-decides : {κ : ℕ → Class} {t : Table} {key : Key} {found : Bool} {q a b : ℕ} → FirstBy κ t key found q a b
-    → Decides (Breaks κ t key) found
-first-decides {κ} {t} {key} {found} {q} {a} {b} w = record { yes = λ h. breaks (w .yes h); no = w .no }
-  where
-    breaks : FirstTargets κ t key q a b → Breaks κ t key
-    breaks f =
-        let g = f .agreeing in
-        let o = f .ordered in
-        record {
-          q = q;
-          a = a;
-          b = b;
-          context = g .context;
-          first = g .first;
-          second = g .second;
-          different = λ e. absurd (omega arith);
-          pairs = g .pairs;
-        }
 
 -- One law for each way on of the loop
 module _ (κ : ℕ → Class) (t : Table) (key : Key) (tops : List ℕ) (tree : IsTree κ t) (few : t .size ≤ 4096)

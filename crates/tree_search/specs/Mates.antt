@@ -14,10 +14,10 @@ use Rattle.meaning.specs.Paths.{Class, simple}
 use Rattle.meaning.specs.Trees.{Table, IsTree, Down, Reached}
 use Rattle.meaning.specs.Keys.{Key, EqualPair}
 use Rattle.theory_trees.specs.Below.{tree-smaller}
-use Rattle.tree_table.specs.Decides.{Decides}
+use Rattle.tree_table.specs.Tells.{Tells}
 use Rattle.tree_table.specs.Links.{LeastChild, Linked}
-use Rattle.tree_rows.specs.Classed.{Classed}
-use Rattle.tree_rows.specs.Chain.{byClass, NextIn, next-in}
+use Rattle.tree_rows.specs.Families.{Families}
+use Rattle.tree_rows.specs.Chain.{byFamily, NextIn, next-in}
 use Rattle.tree_contexts.specs.Tops.{Tops, tops-at, tops-equal}
 use Rattle.tree_rows.specs.Rows.{row, row-set}
 use Rattle.tree_rows.specs.Hung.{Hung}
@@ -54,7 +54,7 @@ module _ (κ : ℕ → Class) (t : Table) (key : Key) (tops : List ℕ) (a b lea
         ∙ sym f)))
 
     pub test-pairs : (x y : ℕ) (r : Bool) → x ≡ getD tops a 0 → y ≡ getD tops b 0 → x ≡ y → getD tops a 0 < 4096 → a < b → b < least
-        → Decides (Each (EqualPair κ t a b) (key .paths)) r → MateTest κ t key tops a b least r
+        → Tells (Each (EqualPair κ t a b) (key .paths)) r → MateTest κ t key tops a b least r
     test-pairs x y r e f g h o l d =
         let u = tops-at t (key .context) (key .target) tops highest a ia in
         let v = tops-at t (key .context) (key .target) tops highest b ib in
@@ -155,11 +155,11 @@ pub record Chasing (κ : ℕ → Class) (t : Table) (key : Key) (tops from numbe
   pub less : least ≤ start
   pub passed : (c : ℕ) (m : MateVia κ t key from number a f c) → (0 < y → m .y < y) → least ≤ c
 
-module _ (κ : ℕ → Class) (t : Table) (key : Key) (tops from number lead chain : List ℕ) (links : Linked (byClass (t .size) number) lead chain)
+module _ (κ : ℕ → Class) (t : Table) (key : Key) (tops from number lead chain : List ℕ) (links : Linked (byFamily (t .size) number) lead chain)
     (some : 0 < t .size) (a f start : ℕ) where
   pub chasing-start : (y : ℕ) → f < t .size → y ≡ getD lead f 0 → LeastSo κ t key tops a start
       → Chasing κ t key tops from number a f start start y
-  unfolding byClass
+  unfolding byFamily
   chasing-start y h e s =
       record {
         inside = within y l;
@@ -174,10 +174,10 @@ module _ (κ : ℕ → Class) (t : Table) (key : Key) (tops from number lead cha
             omega arith);
       }
     where
-      l : LeastChild (byClass (t .size) number) f 1 y
-      l = subst (LeastChild (byClass (t .size) number) f 1) (sym e) (links .firsts .link f h)
+      l : LeastChild (byFamily (t .size) number) f 1 y
+      l = subst (LeastChild (byFamily (t .size) number) f 1) (sym e) (links .firsts .link f h)
 
-      within : (y : ℕ) → LeastChild (byClass (t .size) number) f 1 y → y < t .size
+      within : (y : ℕ) → LeastChild (byFamily (t .size) number) f 1 y → y < t .size
       within zero l = some
       within (suc y) l = l .child (omega arith) .0 .inside
 
@@ -271,18 +271,18 @@ module _ (κ : ℕ → Class) (t : Table) (key : Key) (path tops from first next
           absurd (let m = l .least z (omega arith) q i d in let m1 = m .1 in let j = o (m .0) in omega arith)
 
 -- all nodes of the pivot below a were looked at
-pub mating-end : (κ : ℕ → Class) (t : Table) (key : Key) (tops class group from first next number : List ℕ) (pivot : ℕ) → IsTree κ t
-    → pivot < length (key .paths) → T (simple (getD (key .paths) pivot [])) → Classed κ t class → Grouped κ t key group
-    → Numbered t class group (getD (key .paths) pivot []) number → Hung t (getD (key .paths) pivot []) from first next → (a least x : ℕ) → x ≡ 0
+pub mating-end : (κ : ℕ → Class) (t : Table) (key : Key) (tops family group from first next number : List ℕ) (pivot : ℕ) → IsTree κ t
+    → pivot < length (key .paths) → T (simple (getD (key .paths) pivot [])) → Families κ t family → Grouped κ t key group
+    → Numbered t family group (getD (key .paths) pivot []) number → Hung t (getD (key .paths) pivot []) from first next → (a least x : ℕ) → x ≡ 0
     → Mating κ t key (getD (key .paths) pivot []) tops from number a least x → MateIs κ t key tops a least
-mating-end κ t key tops class group from first next number pivot tree within simple classed grouped numbered h a least x z w =
+mating-end κ t key tops family group from first next number pivot tree within simple families grouped numbered h a least x z w =
     record { ordered = w .so .ordered; agrees = w .so .agrees; least = λ q c o g. go q c o g }
   where
     go : (q c : ℕ) → a < c → Agreeing κ t key q a c → least ≤ c
     go q c o g =
         let d : a ≢ c = λ e. absurd (omega arith) in
         let e = ends κ t key tree pivot within simple q a c g d in
-        let n = ends-number κ t key tree pivot within simple class group number classed grouped numbered q a c g d e in
+        let n = ends-number κ t key tree pivot within simple family group number families grouped numbered q a c g d e in
         w .passed (e .x) (e .positive) (e .inside) (e .below) (λ p. absurd (omega arith)) .all c
         (record {
           y = e .y;

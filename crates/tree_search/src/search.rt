@@ -32,7 +32,7 @@ ghost use Rattle.tree_search.specs.Mates.{Lower};
 ghost use Rattle.tree_search.specs.Start.{SpreadTo, ZeroTo, Searchable, Lent};
 
 // A witness against a key by its numbers: the context, and two different targets, the smaller first.
-pub struct Found {
+pub struct BrokenAt {
     pub found: bool,
     pub context: usize,
     pub first: usize,
@@ -97,7 +97,7 @@ fn first_pair(
     sorted: &[u16; SORTED],
     memo: &mut [u16; MEMO],
     pivot: usize,
-) -> Found
+) -> BrokenAt
     requires { ⌜ Searchable (now classes) (now tree) (now rows) (now hung) (now body) (now sorted) pivot ⌝ }
     requires { ⌜ Marked (fileTable (now tree)) (row 16384 (now rows)) (keyIn (now body) .paths) (now memo) × Lower (fileTable (now tree)) (row 0 (now memo)) 0 ⌝ }
     ensures { λ r. ⌜ FirstBy (classBy (now (classes .entry))) (fileTable (now (tree .entry))) (keyIn (now (body .entry))) (r .found) (r .context) (r .first) (r .second)
@@ -125,14 +125,14 @@ fn first_pair(
         }
     }
     if best < TREE_NODES {
-        return Found {
+        return BrokenAt {
             found: true,
             context: best,
             first: first,
             second: second,
         };
     }
-    Found {
+    BrokenAt {
         found: false,
         context: 0,
         first: 0,
@@ -151,7 +151,7 @@ pub fn broken_key(
     hung: &mut [u16; HUNG],
     sorted: &mut [u16; SORTED],
     memo: &mut [u16; MEMO],
-) -> Found
+) -> BrokenAt
     requires { ⌜ Prepared (now classes) (now tree) (now rows) × GoodKey (now body) ⌝ }
     requires { ⌜ Lent (now top) (now hung) (now sorted) (now memo) ⌝ }
     ensures { λ r. ⌜ FirstBy (classBy (now (classes .entry))) (fileTable (now (tree .entry))) (keyIn (now (body .entry))) (r .found) (r .context) (r .first) (r .second)

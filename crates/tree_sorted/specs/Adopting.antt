@@ -9,7 +9,7 @@ use lib.ListN.{length, getD, set, length-set}
 use lib.Seq.{getD-set-same, getD-set-other}
 use Rattle.meaning.specs.Trees.{Table, Child}
 use Rattle.theory_trees.specs.Below.{ParentsSmaller, down-greater}
-use Rattle.tree_rows.specs.Chain.{byClass}
+use Rattle.tree_rows.specs.Chain.{byFamily}
 use Rattle.tree_rows.specs.Rows.{row, row-set, row-length, row-apart}
 use Rattle.tree_rows.specs.Hung.{Hung}
 use Rattle.tree_sorted.specs.Hung.{HungFrom}
@@ -26,8 +26,8 @@ pub record Several (count : ℕ) (from first : List ℕ) (a : ℕ) (r : Bool) : 
 
 module _ (count : ℕ) (from first next : List ℕ) (lists : HungFrom count from first next 1) (few : count ≤ 4096) (a : ℕ) (inside : a < count) (x : ℕ)
     (is : x ≡ getD first a 0) where
-  child : (y : ℕ) → 0 < y → y < count → getD from y 0 ≡ a → Child (byClass count from) a y
-  unfolding byClass
+  child : (y : ℕ) → 0 < y → y < count → getD from y 0 ≡ a → Child (byFamily count from) a y
+  unfolding byFamily
   child y p i e = record { notRoot = p; inside = i; below = e }
 
   pub several-none : x ≡ 0 → Several count from first a false
@@ -38,15 +38,15 @@ module _ (count : ℕ) (from first next : List ℕ) (lists : HungFrom count from
       }
 
   pub first-inside : 0 < x → x < count
-  unfolding byClass
+  unfolding byFamily
   first-inside p = let c = lists .firsts a inside .child (omega arith) .0 .inside in omega arith
 
   pub several-by-next : (m : ℕ) (r : Bool) → (x ≡ 0 → ⊥) → m ≡ getD next x 0 → (r ≡ false → m ≡ 0) → Several count from first a r
-  unfolding byClass
+  unfolding byFamily
   several-by-next m r q e last =
       record { one = λ f y p i g. go (last f) y p i g (lists .firsts a inside .skipped y (omega arith) (child y p i g)) (ℕ-discrete y x) }
     where
-      c : Child (byClass count from) a (getD first a 0)
+      c : Child (byFamily count from) a (getD first a 0)
       c = lists .firsts a inside .child (omega arith) .0
 
       above : getD from x 0 ≡ a
@@ -59,7 +59,7 @@ module _ (count : ℕ) (from first next : List ℕ) (lists : HungFrom count from
           let j = c .inside in
           let b = above in
           let r = lists .nexts x (omega arith) (omega arith) (omega arith) (omega arith) .skipped y (omega arith)
-          (subst (λ (k : ℕ). Child (byClass count from) k y) (sym above) (child y p i f)) in
+          (subst (λ (k : ℕ). Child (byFamily count from) k y) (sym above) (child y p i f)) in
           let r0 = r .0 in
           absurd (omega arith)
 
@@ -171,7 +171,7 @@ module _ (count : ℕ) (from first next old sorted start : List ℕ) (few : coun
   long = row-length 4096 sorted (let l = stay .long in omega arith)
 
   pub adopt-none : x ≡ 0 → AdoptedTo count from old (row 8192 start) (row 4096 (set sorted (4096 + n) 4096)) (n + 1)
-  unfolding byClass
+  unfolding byFamily
   adopt-none z =
       put-row 4096
       (adopted-put count from old (row 8192 start) (row 4096 sorted) n 4096 (let l = long in omega arith)

@@ -12,8 +12,8 @@ use Rattle.meaning.specs.Trees.{Table, IsTree}
 use Rattle.meaning.specs.Keys.{Key}
 use Rattle.theory_trees.specs.Below.{tree-smaller}
 use Rattle.tree_table.specs.Links.{LinkedFrom, Linked, linked-step, linked-all}
-use Rattle.tree_rows.specs.Classed.{Classed}
-use Rattle.tree_rows.specs.Chain.{byClass}
+use Rattle.tree_rows.specs.Families.{Families}
+use Rattle.tree_rows.specs.Chain.{byFamily}
 use Rattle.tree_rows.specs.Rows.{row, row-at, row-set, row-length, row-apart}
 use Rattle.tree_rows.specs.Hung.{HungAll}
 use Rattle.tree_sorted.specs.Numbers.{NumberedTo}
@@ -82,8 +82,8 @@ clear-step sorted n h long s = record { zeros = λ v g. go v g (ℕ-discrete v n
         ∙ getD-set-same (row 20480 sorted) n 0 0 (let l = row-length 20480 sorted (omega arith) in omega arith)
     go v g (no m) = ap (λ (l : List ℕ). getD l v 0) is ∙ getD-set-other (row 20480 sorted) n v 0 0 m ∙ s .zeros v (omega arith)
 
-pub chain-none : (count : ℕ) (number lead chain : List ℕ) (n : ℕ) → count ≤ n → ClearTo lead n → LinkedFrom (byClass count number) count lead chain
-unfolding byClass
+pub chain-none : (count : ℕ) (number lead chain : List ℕ) (n : ℕ) → count ≤ n → ClearTo lead n → LinkedFrom (byFamily count number) count lead chain
+unfolding byFamily
 chain-none count number lead chain n h s =
     record {
       firsts = λ v g.
@@ -97,20 +97,20 @@ chain-none count number lead chain n h s =
 -- node j - 1 in front of the nodes of its number
 module _ (count : ℕ) (number sorted : List ℕ) (few : count ≤ 4096) (long : length sorted ≡ 24576) (j p : ℕ) (low : 1 < j) (high : j ≤ count)
     (is : p ≡ getD number (j - 1) 0) (inside : p < count) where
-  linked-moved : {lead lead′ chain chain′ : List ℕ} → lead ≡ lead′ → chain ≡ chain′ → LinkedFrom (byClass count number) (j - 1) lead chain
-      → LinkedFrom (byClass count number) (j - 1) lead′ chain′
+  linked-moved : {lead lead′ chain chain′ : List ℕ} → lead ≡ lead′ → chain ≡ chain′ → LinkedFrom (byFamily count number) (j - 1) lead chain
+      → LinkedFrom (byFamily count number) (j - 1) lead′ chain′
   linked-moved {lead} {lead′} {chain} {chain′} e f h =
-      subst (λ (l : List ℕ). LinkedFrom (byClass count number) (j - 1) l chain′) e
-      (subst (λ (l : List ℕ). LinkedFrom (byClass count number) (j - 1) lead l) f h)
+      subst (λ (l : List ℕ). LinkedFrom (byFamily count number) (j - 1) l chain′) e
+      (subst (λ (l : List ℕ). LinkedFrom (byFamily count number) (j - 1) lead l) f h)
 
-  pub chain-put : LinkedFrom (byClass count number) j (row 20480 sorted) (row 12288 sorted)
-      → LinkedFrom (byClass count number) (j - 1)
+  pub chain-put : LinkedFrom (byFamily count number) j (row 20480 sorted) (row 12288 sorted)
+      → LinkedFrom (byFamily count number) (j - 1)
       (row 20480 (set (set sorted (12288 + (j - 1)) (getD sorted (20480 + p) 0)) (20480 + p) (j - 1)))
       (row 12288 (set (set sorted (12288 + (j - 1)) (getD sorted (20480 + p) 0)) (20480 + p) (j - 1)))
-  unfolding byClass
+  unfolding byFamily
   chain-put h =
       linked-moved (sym is-lead) (sym is-chain)
-      (linked-step (byClass count number) (row 20480 sorted) (row 12288 sorted) j p low high
+      (linked-step (byFamily count number) (row 20480 sorted) (row 12288 sorted) j p low high
       (let l = row-length 20480 sorted (omega arith) in omega arith) (let l = row-length 12288 sorted (omega arith) in omega arith) is inside h)
     where
       is-lead : row 20480 (set (set sorted (12288 + (j - 1)) (getD sorted (20480 + p) 0)) (20480 + p) (j - 1)) ≡ set (row 20480 sorted) p (j - 1)
@@ -127,34 +127,34 @@ module _ (count : ℕ) (number sorted : List ℕ) (few : count ≤ 4096) (long :
           ∙ ap (set (row 12288 sorted) (j - 1)) (sym (row-at 20480 sorted p (omega arith)))
 
 pub chain-all : (count : ℕ) (start mid lead chain : List ℕ) (j : ℕ) → j ≤ 1 → 0 < j → ChainStays start mid
-    → LinkedFrom (byClass count (row 8192 mid)) j lead chain → Linked (byClass count (row 8192 start)) lead chain
+    → LinkedFrom (byFamily count (row 8192 mid)) j lead chain → Linked (byFamily count (row 8192 start)) lead chain
 chain-all count start mid lead chain j low p s h =
-    subst (λ (l : List ℕ). Linked (byClass count l) lead chain) (s .numbers) (linked-all (byClass count (row 8192 mid)) lead chain j low p h)
+    subst (λ (l : List ℕ). Linked (byFamily count l) lead chain) (s .numbers) (linked-all (byFamily count (row 8192 mid)) lead chain j low p h)
 
 -- The targets of a key sorted for the search: what the pivot's nodes are numbered by, and the chain of each number
-pub record SortedBy (κ : ℕ → Class) (t : Table) (key : Key) (class sorted : List ℕ) (pivot : ℕ) : Type 0 where
+pub record SortedBy (κ : ℕ → Class) (t : Table) (key : Key) (family sorted : List ℕ) (pivot : ℕ) : Type 0 where
   pub within : pivot < length (key .paths)
   pub grouped : Grouped κ t key (row 4096 sorted)
-  pub numbered : Numbered t class (row 4096 sorted) (getD (key .paths) pivot []) (row 8192 sorted)
-  pub chained : Linked (byClass (t .size) (row 8192 sorted)) (row 20480 sorted) (row 12288 sorted)
+  pub numbered : Numbered t family (row 4096 sorted) (getD (key .paths) pivot []) (row 8192 sorted)
+  pub chained : Linked (byFamily (t .size) (row 8192 sorted)) (row 20480 sorted) (row 12288 sorted)
 
-module _ (κ : ℕ → Class) (t : Table) (key : Key) (class hung : List ℕ) (tree : IsTree κ t) (few : t .size ≤ 4096) (classed : Classed κ t class)
+module _ (κ : ℕ → Class) (t : Table) (key : Key) (family hung : List ℕ) (tree : IsTree κ t) (few : t .size ≤ 4096) (families : Families κ t family)
     (lists : HungAll t (key .paths) hung) (i : ℕ) (within : i < length (key .paths)) where
   pub numbered-at : (old new : List ℕ) → Stays old new
-      → NumberedTo (t .size) class (row (12288 * i) hung) (row 4096 old) (row 8192 new) (row 16384 new) (t .size)
-      → Numbered t class (row 4096 new) (getD (key .paths) i []) (row 8192 new)
+      → NumberedTo (t .size) family (row (12288 * i) hung) (row 4096 old) (row 8192 new) (row 16384 new) (t .size)
+      → Numbered t family (row 4096 new) (getD (key .paths) i []) (row 8192 new)
   numbered-at old new s n =
-      numbered-path t class (row 4096 new) (getD (key .paths) i []) (row (12288 * i) hung) (row (12288 * i + 4096) hung)
-      (row (12288 * i + 8192) hung) (row 8192 new) (row 16384 new) (tree-smaller tree) few (classed .inside) (lists .each i within)
-      (subst (λ (g : List ℕ). NumberedTo (t .size) class (row (12288 * i) hung) g (row 8192 new) (row 16384 new) (t .size)) (sym (s .groups)) n)
+      numbered-path t family (row 4096 new) (getD (key .paths) i []) (row (12288 * i) hung) (row (12288 * i + 4096) hung)
+      (row (12288 * i + 8192) hung) (row 8192 new) (row 16384 new) (tree-smaller tree) few (families .inside) (lists .each i within)
+      (subst (λ (g : List ℕ). NumberedTo (t .size) family (row (12288 * i) hung) g (row 8192 new) (row 16384 new) (t .size)) (sym (s .groups)) n)
 
   -- a single-valued path refines the groups
   pub refined : T (simple (getD (key .paths) i [])) → (old mid new : List ℕ) (count n : ℕ) → count ≡ t .size → count ≤ n → Stays old mid
-      → NumberedTo (t .size) class (row (12288 * i) hung) (row 4096 old) (row 8192 mid) (row 16384 mid) (t .size)
+      → NumberedTo (t .size) family (row (12288 * i) hung) (row 4096 old) (row 8192 mid) (row 16384 mid) (t .size)
       → AdoptedTo count (row (12288 * i) hung) (row 4096 mid) (row 8192 mid) (row 4096 new) n → Grouped κ t key (row 4096 old)
       → Grouped κ t key (row 4096 new)
   refined simple old mid new count n e all s num ad g =
-      adopt-grouped κ t key tree i within simple class (row 4096 mid) (row 8192 mid) (row 4096 new) classed
+      adopt-grouped κ t key tree i within simple family (row 4096 mid) (row 8192 mid) (row 4096 new) families
       (subst (Grouped κ t key) (sym (s .groups)) g) (numbered-at old mid s num)
       (adopted-path t (getD (key .paths) i []) (row (12288 * i) hung) (row (12288 * i + 4096) hung) (row (12288 * i + 8192) hung) (row 4096 mid)
       (row 8192 mid) (row 4096 new) n (tree-smaller tree) (omega arith) (lists .each i within)
@@ -162,16 +162,16 @@ module _ (κ : ℕ → Class) (t : Table) (key : Key) (class hung : List ℕ) (t
 
   -- all together
   pub sorted-so : (old mid new : List ℕ) (count : ℕ) → count ≡ t .size → Stays old mid
-      → NumberedTo (t .size) class (row (12288 * i) hung) (row 4096 old) (row 8192 mid) (row 16384 mid) (t .size) → Grouped κ t key (row 4096 old)
-      → ChainStays mid new → Linked (byClass count (row 8192 mid)) (row 20480 new) (row 12288 new) → SortedBy κ t key class new i
+      → NumberedTo (t .size) family (row (12288 * i) hung) (row 4096 old) (row 8192 mid) (row 16384 mid) (t .size) → Grouped κ t key (row 4096 old)
+      → ChainStays mid new → Linked (byFamily count (row 8192 mid)) (row 20480 new) (row 12288 new) → SortedBy κ t key family new i
   sorted-so old mid new count e s num g c l =
       record {
         within = within;
         grouped = subst (Grouped κ t key) (sym (c .groups ∙ s .groups)) g;
-        numbered = subst (λ (r : List ℕ). Numbered t class r (getD (key .paths) i []) (row 8192 new)) (sym (c .groups))
-            (subst (Numbered t class (row 4096 mid) (getD (key .paths) i [])) (sym (c .numbers)) (numbered-at old mid s num));
-        chained = subst (λ (r : List ℕ). Linked (byClass (t .size) r) (row 20480 new) (row 12288 new)) (sym (c .numbers))
-            (subst (λ (m : ℕ). Linked (byClass m (row 8192 mid)) (row 20480 new) (row 12288 new)) e l);
+        numbered = subst (λ (r : List ℕ). Numbered t family r (getD (key .paths) i []) (row 8192 new)) (sym (c .groups))
+            (subst (Numbered t family (row 4096 mid) (getD (key .paths) i [])) (sym (c .numbers)) (numbered-at old mid s num));
+        chained = subst (λ (r : List ℕ). Linked (byFamily (t .size) r) (row 20480 new) (row 12288 new)) (sym (c .numbers))
+            (subst (λ (m : ℕ). Linked (byFamily m (row 8192 mid)) (row 20480 new) (row 12288 new)) e l);
       }
 
 -- the lists of key path i, for as many nodes as the code counts

@@ -13,7 +13,7 @@ use Rattle.meaning.specs.Keys.{Key}
 use Rattle.theory_trees.specs.Below.{ParentsSmaller, rigid-node, down-inside, down-greater}
 use Rattle.theory_trees.specs.Laws.{equal-label, equal-symmetric}
 use Rattle.theory_trees.specs.Reach.{reached-inside, reached-down}
-use Rattle.tree_rows.specs.Classed.{Classed}
+use Rattle.tree_rows.specs.Families.{Families}
 use Rattle.tree_rows.specs.Hung.{Hung}
 use Rattle.tree_pairs.specs.Pairs.{each-one}
 use Rattle.theory_trees.specs.Agreeing.{Agreeing}
@@ -24,11 +24,11 @@ pub record Grouped (κ : ℕ → Class) (t : Table) (key : Key) (group : List �
   pub together : (q a b : ℕ) → Agreeing κ t key q a b → a ≢ b → getD group a 0 ≡ getD group b 0
   pub some : (q a b : ℕ) → Agreeing κ t key q a b → a ≢ b → getD group a 0 < t .size
 
--- Nodes of one class that the path reaches from targets of one group have one number
-pub record Numbered (t : Table) (class group path number : List ℕ) : Type 0 where
+-- Nodes of one family that the path reaches from targets of one group have one number
+pub record Numbered (t : Table) (family group path number : List ℕ) : Type 0 where
   pub low : (x : ℕ) → x < t .size → getD number x 0 ≤ x
   pub same : (x y a b : ℕ) → 0 < x → x < t .size → 0 < y → y < t .size → Down t a path x → Down t b path y
-      → getD class x 0 ≡ getD class y 0 → getD group a 0 ≡ getD group b 0 → getD group a 0 < t .size → getD number x 0 ≡ getD number y 0
+      → getD family x 0 ≡ getD family y 0 → getD group a 0 ≡ getD group b 0 → getD group a 0 < t .size → getD number x 0 ≡ getD number y 0
 
 -- Each target has the number of each node that the path reaches from it: so it has one number only
 pub record Adopted (t : Table) (group path number fresh : List ℕ) : Type 0 where
@@ -86,17 +86,17 @@ module _ (κ : ℕ → Class) (t : Table) (key : Key) (tree : IsTree κ t) (i : 
       above′ x y dx dy e h (no m) (yes w) = absurd (alone y x w (omega arith) h (equal-symmetric e))
 
   -- the numbers of the ends are the same
-  pub ends-number : (class group number : List ℕ) → Classed κ t class → Grouped κ t key group
-      → Numbered t class group (getD (key .paths) i []) number → (q a b : ℕ) → (g : Agreeing κ t key q a b) (d : a ≢ b) (e : Ends κ t a b (getD (key .paths) i []))
+  pub ends-number : (family group number : List ℕ) → Families κ t family → Grouped κ t key group
+      → Numbered t family group (getD (key .paths) i []) number → (q a b : ℕ) → (g : Agreeing κ t key q a b) (d : a ≢ b) (e : Ends κ t a b (getD (key .paths) i []))
       → getD number (e .x) 0 ≡ getD number (e .y) 0
-  ends-number class group number classed grouped numbered q a b g d e =
+  ends-number family group number families grouped numbered q a b g d e =
       numbered .same (e .x) (e .y) a b (e .positive) (e .inside) (e .positive′) (e .inside′) (e .below) (e .across)
-      (classed .equal (e .x) (e .y) (e .inside) (e .inside′) (e .equal)) (grouped .together q a b g d) (grouped .some q a b g d)
+      (families .equal (e .x) (e .y) (e .inside) (e .inside′) (e .equal)) (grouped .together q a b g d) (grouped .some q a b g d)
 
   -- a path that reaches one node from each target refines the groups
-  pub adopt-grouped : (class group number fresh : List ℕ) → Classed κ t class → Grouped κ t key group
-      → Numbered t class group (getD (key .paths) i []) number → Adopted t group (getD (key .paths) i []) number fresh → Grouped κ t key fresh
-  adopt-grouped class group number fresh classed grouped numbered adopted =
+  pub adopt-grouped : (family group number fresh : List ℕ) → Families κ t family → Grouped κ t key group
+      → Numbered t family group (getD (key .paths) i []) number → Adopted t group (getD (key .paths) i []) number fresh → Grouped κ t key fresh
+  adopt-grouped family group number fresh families grouped numbered adopted =
       record { together = λ q a b g d. same q a b g d (ends q a b g d); some = λ q a b g d. has q a b g d (ends q a b g d) }
     where
       same : (q a b : ℕ) (g : Agreeing κ t key q a b) (d : a ≢ b) → Ends κ t a b (getD (key .paths) i []) → getD fresh a 0 ≡ getD fresh b 0
@@ -104,7 +104,7 @@ module _ (κ : ℕ → Class) (t : Table) (key : Key) (tree : IsTree κ t) (i : 
           let s = grouped .some q a b g d in
           let z = grouped .together q a b g d in
           adopted .each (e .x) a (e .positive) (e .inside) (e .below) s
-          ∙ ends-number class group number classed grouped numbered q a b g d e
+          ∙ ends-number family group number families grouped numbered q a b g d e
           ∙ sym (adopted .each (e .y) b (e .positive′) (e .inside′) (e .across) (omega arith))
 
       has : (q a b : ℕ) (g : Agreeing κ t key q a b) (d : a ≢ b) → Ends κ t a b (getD (key .paths) i []) → getD fresh a 0 < t .size
@@ -115,13 +115,13 @@ module _ (κ : ℕ → Class) (t : Table) (key : Key) (tree : IsTree κ t) (i : 
           omega arith
 
 -- the numbers by the lists of the path
-pub numbered-path : (t : Table) (class group path from first next number stamp : List ℕ) → ParentsSmaller t → t .size ≤ 4096
-    → ((x : ℕ) → x < t .size → getD class x 0 < t .size) → Hung t path from first next
-    → NumberedTo (t .size) class from group number stamp (t .size) → Numbered t class group path number
-numbered-path t class group path from first next number stamp small few inside h n =
+pub numbered-path : (t : Table) (family group path from first next number stamp : List ℕ) → ParentsSmaller t → t .size ≤ 4096
+    → ((x : ℕ) → x < t .size → getD family x 0 < t .size) → Hung t path from first next
+    → NumberedTo (t .size) family from group number stamp (t .size) → Numbered t family group path number
+numbered-path t family group path from first next number stamp small few inside h n =
     record { low = n .ready .low; same = λ x y a b p ix q iy dx dy e g i. go x y a b p ix q iy dx dy e g i }
   where
-    go : (x y a b : ℕ) → 0 < x → x < t .size → 0 < y → y < t .size → Down t a path x → Down t b path y → getD class x 0 ≡ getD class y 0
+    go : (x y a b : ℕ) → 0 < x → x < t .size → 0 < y → y < t .size → Down t a path x → Down t b path y → getD family x 0 ≡ getD family y 0
         → getD group a 0 ≡ getD group b 0 → getD group a 0 < t .size → getD number x 0 ≡ getD number y 0
     go x y a b p ix q iy dx dy e g i =
         let ex = h .every x a p ix dx in

@@ -136,12 +136,12 @@ module _ (i : ℕ) (hung : List ℕ) (within : i < 4) (long : length hung ≡ 49
       ∙ row-apart (12288 * i) hung (12288 * i + 8192 + j) x (λ p q. omega arith)
 
 -- what the second loop asks of the first
-pub record Ready (count : ℕ) (from first : List ℕ) : Type 0 where
+pub record OriginsFound (count : ℕ) (from first : List ℕ) : Type 0 where
   pub inside : (x : ℕ) → x < count → getD from x 0 < 4096 → getD from x 0 < count
   pub zeros : (v : ℕ) → v < count → getD first v 0 ≡ 0
 
 pub origins-ready : (t : Table) (path from first : List ℕ) (count : ℕ) → count ≡ t .size → OriginsTo t path from first (t .size)
-    → Ready count from first
+    → OriginsFound count from first
 origins-ready t path from first count e o =
     record {
       inside = λ x h g. let b = o .origins x (omega arith) .inside (λ z. absurd (omega arith)) in omega arith;

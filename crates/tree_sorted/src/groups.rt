@@ -19,7 +19,7 @@ ghost use lib.ListN.{length, getD};
 ghost use Rattle.meaning.specs.Records.{keyIn};
 ghost use Rattle.tree_table.specs.FileTable.{fileTable, classBy};
 ghost use Rattle.tree_table.specs.Links.{Linked};
-ghost use Rattle.tree_rows.specs.Chain.{byClass};
+ghost use Rattle.tree_rows.specs.Chain.{byFamily};
 ghost use Rattle.tree_rows.specs.Rows.{row};
 ghost use Rattle.tree_rows.specs.Hung.{HungAll};
 ghost use Rattle.tree_rows.specs.Prepared.{Prepared};
@@ -164,7 +164,7 @@ fn clear_leads(nodes: usize, sorted: &mut [u16; SORTED])
 // To each number its nodes, ascending.
 fn chain_numbers(nodes: usize, sorted: &mut [u16; SORTED])
     requires { ⌜ (0 < nodes) × (nodes ≤ 4096) × (length (now sorted) ≡ 24576) × ((x : ℕ) → x < nodes → getD (row 8192 (now sorted)) x 0 ≤ x) ⌝ }
-    ensures { λ _. ⌜ Linked (byClass nodes (row 8192 (now (sorted .entry)))) (row 20480 (now (sorted .exit))) (row 12288 (now (sorted .exit))) × ChainStays (now (sorted .entry)) (now (sorted .exit)) ⌝ }
+    ensures { λ _. ⌜ Linked (byFamily nodes (row 8192 (now (sorted .entry)))) (row 20480 (now (sorted .exit))) (row 12288 (now (sorted .exit))) × ChainStays (now (sorted .entry)) (now (sorted .exit)) ⌝ }
 {
     clear_leads(nodes, sorted);
     let mut x = nodes;

@@ -22,7 +22,7 @@ ghost use Rattle.tree_rows.specs.Rows.{row};
 ghost use Rattle.tree_rows.specs.Hung.{Hung, HungAll};
 ghost use Rattle.tree_sorted.specs.Origin.{OriginIs};
 ghost use Rattle.tree_sorted.specs.Hung.{HungFrom};
-ghost use Rattle.tree_sorted.specs.Stores.{OriginsTo, OthersStay, Ready};
+ghost use Rattle.tree_sorted.specs.Stores.{OriginsTo, OthersStay, OriginsFound};
 ghost use Rattle.tree_sorted.specs.GoodKey.{GoodKey};
 
 // "A path has at most 8 symbols".
@@ -82,7 +82,7 @@ fn find_origins(tree: &[u8], classes: &[u8; 256], path: &[u8], i: usize, hung: &
 // Each node in front of the list of the node above it, from the back: the lists ascend.
 fn link_up(count: usize, i: usize, hung: &mut [u16; HUNG])
     requires { ⌜ (0 < count) × (count ≤ 4096) × (i < 4) × (length (now hung) ≡ 49152) ⌝ }
-    requires { ⌜ Ready count (row (12288 * i) (now hung)) (row (12288 * i + 4096) (now hung)) ⌝ }
+    requires { ⌜ OriginsFound count (row (12288 * i) (now hung)) (row (12288 * i + 4096) (now hung)) ⌝ }
     ensures { λ _. ⌜ HungFrom count (row (12288 * i) (now (hung .entry))) (row (12288 * i + 4096) (now (hung .exit))) (row (12288 * i + 8192) (now (hung .exit))) 1
         × (row (12288 * i) (now (hung .exit)) ≡ row (12288 * i) (now (hung .entry))) × OthersStay i (now (hung .entry)) (now (hung .exit)) ⌝ }
 {

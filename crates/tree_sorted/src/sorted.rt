@@ -6,7 +6,7 @@ ghost use lib.ListN.{getD};
 ghost use Rattle.tree_rows.specs.Rows.{row};
 
 // Six rows of 4,096: the highest context of each node, its group, the number of each node that a key path reaches, the next node of that number,
-// and at each group the class met there last and its first node; in the end, to each number its first node.
+// and at each group the family met there last and its first node; in the end, to each number its first node.
 pub const SORTED: usize = 24576;
 
 pub const TOP: usize = 0;

@@ -1,12 +1,12 @@
 // The first witness against a key (02, request 9): the first context and targets are known, and each key path has its first value-equal pair below
-// them. The nodes that a key path reaches from a node stand in a list that ascends, so the first of a class is the least.
+// them. The nodes that a key path reaches from a node stand in a list that ascends, so the first of a family is the least.
 use op_answers::Witness;
 use read_record::keys::count;
 use tree_rows::hung::HUNG;
 use tree_rows::hung::first_hung;
 use tree_rows::hung::next_hung;
 use tree_rows::rows::ROWS;
-use tree_rows::rows::class_of;
+use tree_rows::rows::family_of;
 use tree_table::tables::at;
 use tree_table::tables::blank;
 ghost use mathlib.Core.Path.{_≡_};
@@ -29,7 +29,7 @@ struct Pair {
     y: usize,
 }
 
-// At each class the first node of it that key path i reaches from b; 0 where there is none.
+// At each family the first node of it that key path i reaches from b; 0 where there is none.
 fn put_firsts(
     tree: &[u8],
     classes: &[u8; 256],
@@ -46,9 +46,9 @@ fn put_firsts(
 {
     let mut y = first_hung(hung, i, b);
     while y != 0 {
-        let class = class_of(rows, y);
-        if at(&*firsts, class) == 0 {
-            firsts[class] = y as u16;
+        let family = family_of(rows, y);
+        if at(&*firsts, family) == 0 {
+            firsts[family] = y as u16;
             y = next_hung(hung, i, y);
         } else {
             y = next_hung(hung, i, y);
@@ -56,7 +56,7 @@ fn put_firsts(
     }
 }
 
-// The first node that key path i reaches from a, of a class that it reaches from b too, with the first node of that class below b.
+// The first node that key path i reaches from a, of a family that it reaches from b too, with the first node of that family below b.
 fn first_pair(
     tree: &[u8],
     classes: &[u8; 256],
@@ -74,7 +74,7 @@ fn first_pair(
 {
     let mut x = first_hung(hung, i, a);
     while x != 0 {
-        let y = at(firsts, class_of(rows, x));
+        let y = at(firsts, family_of(rows, x));
         if y != 0 {
             return Pair { x: x, y: y };
         }

@@ -17,7 +17,7 @@ use Rattle.theory_records.specs.Bytes.{Bytes}
 use Rattle.theory_records.specs.Bodies.{records-next}
 use Rattle.theory_records.specs.Profiles.{flat-more, length-more}
 use Rattle.theory_records.specs.KeyPlaces.{keysFrom, KeyRecord, KeyRecords, keys-length}
-use Rattle.theory_reduce.specs.Parts.{staying-next}
+use Rattle.theory_reduce.specs.StayingKeys.{staying-next}
 use Rattle.theory_reduce.specs.LeanProfile.{staying-few}
 use Rattle.theory_reduce.specs.Placed.{keysWritten, chosen-room, keys-at, bytes-records, front-written}
 use Rattle.write_bytes.specs.Wrote.{Wrote, wrote-none, wrote-more, wrote-is}

@@ -8,11 +8,11 @@ use lib.ListN.{length, take, set, length-append}
 use Rattle.meaning.specs.Limits.{lineKind}
 use Rattle.meaning.specs.Paths.{norm}
 use Rattle.meaning.specs.Records.{wordBytes, recordBytes, pathBytes, keyBody, lineBytes}
-use Rattle.read_record.specs.Parts.{pathsEnd, pathsOf}
+use Rattle.read_record.specs.BodyParts.{pathsEnd, pathsOf}
 use Rattle.read_record.specs.KeyPaths.{paths-count}
 use Rattle.read_record.specs.PathBytes.{paths-bytes}
 use Rattle.theory_derive.specs.Written.{keyOf, twoLine}
-use Rattle.theory_derive.specs.Parts.{norm-length}
+use Rattle.theory_pattern.specs.RowParts.{norm-length}
 use Rattle.write_bytes.specs.Wrote.{Wrote, wrote-more, wrote-is, wrote-part, wrote-two}
 
 unfoldable pub lineHead : (size rule first second : ℕ) → List ℕ

@@ -10,7 +10,7 @@ ghost use Prim.Native.Nat.{_+_, _<_, _≤_};
 ghost use lib.ListN.{length};
 ghost use Rattle.meaning.specs.Paths.{norm};
 ghost use Rattle.meaning.specs.Records.{wordBytes, pathBytes, lineBytes};
-ghost use Rattle.read_record.specs.Parts.{pathsOf};
+ghost use Rattle.read_record.specs.BodyParts.{pathsOf};
 ghost use Rattle.theory_derive.specs.Written.{keyOf, twoLine};
 ghost use Rattle.write_bytes.specs.Wrote.{Wrote};
 ghost use Rattle.write_line.specs.Normals.{doubledAny};

@@ -14,7 +14,7 @@ use Rattle.meaning.specs.Paths.{Class, Label, classOf, isElement}
 use Rattle.meaning.specs.Trees.{Table, Node, tableOf}
 use Rattle.meaning.specs.Listing.{decimal, dash, firstLine, nodeLine, listing, block}
 use Rattle.write_listing.specs.Decimal.{ten-digits}
-use Rattle.theory_paths.specs.Lists.{numbers-length}
+use Rattle.theory_lists.specs.Lists.{numbers-length}
 
 -- a number or `-`, and the byte behind it
 unfoldable pub field : Bool → ℕ → ℕ → List ℕ

@@ -13,7 +13,7 @@ use Rattle.meaning.specs.Paths.{Class, isElement}
 use Rattle.meaning.specs.Pattern.{Dressed}
 use Rattle.write_pattern.specs.declared.Drawing.{Drawing}
 use Rattle.write_pattern.specs.Sketch.{Sketch, dressedAs, addTo, entryAt, sketch, Sized, Shown, Entered, nothing}
-use Rattle.theory_paths.specs.Lists.{map-append, numbers-length}
+use Rattle.theory_lists.specs.Lists.{map-append, numbers-length}
 
 pub numbers-more : (count start : ℕ) → numbers (suc count) start ≡ numbers count start ++ ((start + count) ∷ [])
 unfolding numbers

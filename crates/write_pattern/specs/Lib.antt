@@ -2,4 +2,4 @@
 pub mod Sketch
 pub mod Entries
 pub mod Runs
-pub mod Parts
+pub mod DrawnParts

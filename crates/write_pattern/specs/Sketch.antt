@@ -101,7 +101,7 @@ pub record Sizes (body : List ℕ) : Type 0 where
   pub short : (i : ℕ) → i < length (keyIn body .paths) → length (getD (keyIn body .paths) i []) ≤ 8
 
 -- .. and u stands on the way from q to t, above t
-pub record Asked (body : List ℕ) (u : ℕ) : Type 0 where
+pub record Sketchable (body : List ℕ) (u : ℕ) : Type 0 where
   pub sizes : Sizes body
   pub fromQ : qOf (keyIn body) ≤ u
   pub aboveT : u < tOf (keyIn body)

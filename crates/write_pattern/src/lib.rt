@@ -13,7 +13,7 @@ ghost use lib.ListN.{length};
 ghost use Rattle.meaning.specs.Records.{keyIn};
 ghost use Rattle.meaning.specs.Pattern.{drawn as drawnAs};
 ghost use Rattle.read_record.specs.Classes.{classBy};
-ghost use Rattle.write_pattern.specs.Sketch.{Room, Shown, Entered, Sizes, Asked, nothing, sketch};
+ghost use Rattle.write_pattern.specs.Sketch.{Room, Shown, Entered, Sizes, Sketchable, nothing, sketch};
 ghost use Rattle.write_pattern.specs.Sketch.{addTo, drawRun, drawBranches, drawTrunk, drawBelow};
 
 // 01's labels: "201 is a filler element, 202 a filler attribute, 203 the root"; "Symbol 0 in a path is the any-path"
@@ -134,7 +134,7 @@ fn draw_branches(drawing: Drawing, asked: &[u8], classes: &[u8; 256], whole: boo
 
 // "the pattern's nodes from root to u"
 pub fn draw_trunk(asked: &[u8], classes: &[u8; 256], u: usize) -> Drawing
-    requires { ⌜ Asked (now asked) u ⌝ }
+    requires { ⌜ Sketchable (now asked) u ⌝ }
     ensures { λ r. ⌜ Shown r (drawTrunk (classBy (now (classes .entry))) (keyIn (now (asked .entry))) u) 34 ⌝ }
 {
     let root = add(blank(), classes, ROOT_LABEL, false);
@@ -147,7 +147,7 @@ pub fn draw_trunk(asked: &[u8], classes: &[u8; 256], u: usize) -> Drawing
 
 // "then all the others in order (downwards, branch after branch)"
 pub fn draw_below(trunk: Drawing, asked: &[u8], classes: &[u8; 256], u: usize) -> Drawing
-    requires { ⌜ Asked (now asked) u × Room trunk 80 ⌝ }
+    requires { ⌜ Sketchable (now asked) u × Room trunk 80 ⌝ }
     ensures { λ r. ⌜ Shown r (drawBelow (classBy (now (classes .entry))) (keyIn (now (asked .entry))) u (sketch trunk)) 128 ⌝ }
 {
     let whole = holds_empty(asked);

@@ -14,11 +14,11 @@ use Rattle.meaning.specs.Keys.{Key}
 use Rattle.meaning.specs.Rules.{Line}
 use Rattle.meaning.specs.Records.{keyIn, readKey, isSome, recordLength, recordBody, lineBytes, noKey}
 use Rattle.meaning.specs.Operations.{recordsFrom}
-use Rattle.theory_paths.specs.Bools.{Each-at}
+use Rattle.theory_lists.specs.Bools.{Each-at}
 use Rattle.theory_paths.specs.Good.{GoodKey, context-normal, target-normal}
 use Rattle.theory_paths.specs.Normal.{norm-of-normal}
-use Rattle.theory_derive.specs.Logic.{less-or, found-below, found-mem}
-use Rattle.theory_derive.specs.Spots.{Taken as Step, Fires, Chain, begun, taken}
+use Rattle.theory_lists.specs.Logic.{less-or, found-below, found-mem}
+use Rattle.theory_pattern.specs.Spots.{Taken as Step, Fires, Chain, begun, taken}
 use Rattle.theory_derive.specs.Accept.{turns, getD-found}
 use Rattle.theory_derive.specs.Written.{stepLines, takenLines, linesFrom, firstLine, proofLines}
 use Rattle.write_bytes.specs.Wrote.{written}
@@ -28,7 +28,7 @@ use Rattle.step_search.specs.declared.firing.Taken.{Taken}
 use Rattle.write_proof.specs.Derived.{KeyNormal}
 use Rattle.step_search.specs.Ranges.{stepOf}
 use Rattle.step_search.specs.Finding.{stepsBelow}
-use Rattle.write_proof.specs.Ready.{TakenReady, ProofReady}
+use Rattle.write_proof.specs.Asks.{TakenReady, ProofReady}
 use Rattle.write_proof.specs.Cited.{citedKey, takenBy, linesBy, proofBy}
 
 -- What the decider has: an accepted profile, whose key number n stands whole at record labels + n, an accepted question, and the steps
@@ -116,7 +116,7 @@ module _ {declared : List Label} {profile : List ℕ} {labels : ℕ} {keys : Lis
           isBranch = s .isBranch;
           onChain = s .onChain;
           above = f .above;
-          onLine = s .onLine;
+          onRow = s .onRow;
         };
       }
 

@@ -11,7 +11,7 @@ use Rattle.meaning.specs.Keys.{Key}
 use Rattle.meaning.specs.Records.{keyIn, recordBody}
 use Rattle.meaning.specs.Operations.{recordsFrom}
 use Rattle.meaning.specs.Pattern.{tOf}
-use Rattle.theory_derive.specs.Spots.{Taken, lineOf, holdsEmpty}
+use Rattle.theory_pattern.specs.Spots.{Taken, rowOf, holdsEmpty}
 use Rattle.theory_derive.specs.Written.{oneLine, chainLines, endLines, emptyLines, stepLines, firstLine}
 use Rattle.write_step.specs.StepLines.{openingOf, unitedBy, chainLinesOf, endLinesOf, emptyLinesOf}
 use Rattle.write_proof.specs.Derived.{KeyNormal, opening-is, chain-is, end-is, empty-is}
@@ -21,20 +21,20 @@ unfoldable pub citedKey : List ℕ → ℕ → Key
 citedKey profile n = keyIn (recordBody (recordsFrom n profile))
 
 -- the lines of a step over the line that its spot lies on
-unfoldable pub stepOn : (line : List ℕ) (asked s : Key) (number i k lines : ℕ) → List Line
-stepOn line asked s number i k lines =
-    openingOf line s number i k lines
-    ++ cond (leb k (tOf asked)) (chainLinesOf line (tOf asked) asked (unitedBy asked s (tOf asked - k)) i k lines)
-    (cond (holdsEmpty asked) (emptyLinesOf line (tOf asked) asked s i k lines) (endLinesOf line (tOf asked) asked i lines))
+unfoldable pub stepOn : (row : List ℕ) (asked s : Key) (number i k lines : ℕ) → List Line
+stepOn row asked s number i k lines =
+    openingOf row s number i k lines
+    ++ cond (leb k (tOf asked)) (chainLinesOf row (tOf asked) asked (unitedBy asked s (tOf asked - k)) i k lines)
+    (cond (holdsEmpty asked) (emptyLinesOf row (tOf asked) asked s i k lines) (endLinesOf row (tOf asked) asked i lines))
 
 pub step-on-is : (asked s : Key) (number i j k lines : ℕ) → KeyNormal s → i ≤ tOf asked → i ≤ k
-    → stepOn (lineOf asked j) asked s number i k lines ≡ stepLines asked s number i j k lines
+    → stepOn (rowOf asked j) asked s number i k lines ≡ stepLines asked s number i j k lines
 unfolding stepOn stepLines
 step-on-is asked s number i j k lines n h l = ap₂ (λ (a b : List Line). a ++ b) (opening-is asked j s number i k lines n h l) (go (leb k (tOf asked)) refl)
   where
     go : (b : Bool) → leb k (tOf asked) ≡ b
-        → cond b (chainLinesOf (lineOf asked j) (tOf asked) asked (unitedBy asked s (tOf asked - k)) i k lines)
-        (cond (holdsEmpty asked) (emptyLinesOf (lineOf asked j) (tOf asked) asked s i k lines) (endLinesOf (lineOf asked j) (tOf asked) asked i lines))
+        → cond b (chainLinesOf (rowOf asked j) (tOf asked) asked (unitedBy asked s (tOf asked - k)) i k lines)
+        (cond (holdsEmpty asked) (emptyLinesOf (rowOf asked j) (tOf asked) asked s i k lines) (endLinesOf (rowOf asked j) (tOf asked) asked i lines))
         ≡ cond b (chainLines asked s i j k lines) (cond (holdsEmpty asked) (emptyLines asked s i j k lines) (endLines asked i j lines))
     go true e = chain-is asked j s i k lines h l (leb-true k (tOf asked) e)
     go false e =

@@ -1,7 +1,7 @@
 -- The whole proof.
 pub mod Derived
 pub mod Sizes
-pub mod Ready
+pub mod Asks
 pub mod Cited
 pub mod Whole
 pub mod Chained

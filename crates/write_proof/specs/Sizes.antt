@@ -10,7 +10,7 @@ use borrow.Author.Tests.{le-leb, lt-leb}
 use Rattle.meaning.specs.Rules.{Line}
 use Rattle.meaning.specs.Keys.{Key}
 use Rattle.meaning.specs.Pattern.{tOf}
-use Rattle.theory_derive.specs.Spots.{holdsEmpty}
+use Rattle.theory_pattern.specs.Spots.{holdsEmpty}
 use Rattle.theory_derive.specs.Written.{opening, chainLines, endLines, emptyLines, stepLines}
 
 unfoldable pub sizeOf : Key → ℕ → ℕ

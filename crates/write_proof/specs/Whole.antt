@@ -14,8 +14,8 @@ use Rattle.meaning.specs.Keys.{Key}
 use Rattle.meaning.specs.Records.{keyIn, recordLength, recordBody}
 use Rattle.meaning.specs.Operations.{recordsFrom}
 use Rattle.meaning.specs.Pattern.{tOf}
-use Rattle.theory_derive.specs.Spots.{Taken as Step, chainOf, lineOf, holdsEmpty}
-use Rattle.theory_derive.specs.Lines.{chain-length}
+use Rattle.theory_pattern.specs.Spots.{Taken as Step, chainOf, rowOf, holdsEmpty}
+use Rattle.theory_pattern.specs.Rows.{chain-length}
 use Rattle.theory_derive.specs.Written.{keyOf, keyAt, oneLine, stepLines, firstLine}
 use Rattle.write_bytes.specs.Wrote.{Wrote, wrote-more, wrote-part}
 use Rattle.write_step.specs.Fits.{KeyBody, OfKeyFits}
@@ -26,48 +26,48 @@ use Rattle.write_proof.specs.Derived.{KeyNormal, key-normal}
 use Rattle.write_proof.specs.Sizes.{sizeOf, step-size, size-few}
 use Rattle.step_search.specs.Ranges.{stepOf}
 use Rattle.step_search.specs.Finding.{stepsBelow}
-use Rattle.write_proof.specs.Ready
-use Rattle.write_proof.specs.Ready.{StepRoom, SpotReady}
+use Rattle.write_proof.specs.Asks
+use Rattle.write_proof.specs.Asks.{StepRoom, SpotReady}
 use Rattle.write_proof.specs.Cited.{stepOn, step-on-is, citedKey, takenBy, linesBy, proofBy}
 
 -- ---- the three ends of a step
 
-module _ {o a b : List ℕ} {at p q : ℕ} (line : List ℕ) (asked s : Key) (number i k lines : ℕ) {chain : ℕ} (t : chain ≡ tOf asked)
-    (w : WroteLines o a at (openingOf line s number i k lines) p) where
-  pub on-chain : k ≤ chain → WroteLines a b p (chainLinesOf line chain asked (unitedBy asked s (chain - k)) i k lines) q
-      → WroteLines o b at (stepOn line asked s number i k lines) q
+module _ {o a b : List ℕ} {at p q : ℕ} (row : List ℕ) (asked s : Key) (number i k lines : ℕ) {chain : ℕ} (t : chain ≡ tOf asked)
+    (w : WroteLines o a at (openingOf row s number i k lines) p) where
+  pub on-chain : k ≤ chain → WroteLines a b p (chainLinesOf row chain asked (unitedBy asked s (chain - k)) i k lines) q
+      → WroteLines o b at (stepOn row asked s number i k lines) q
   unfolding stepOn
   on-chain h v =
       rw (le-leb k (tOf asked) (omega arith))
-      (lines-more w (subst (λ (n : ℕ). WroteLines a b p (chainLinesOf line n asked (unitedBy asked s (n - k)) i k lines) q) t v))
+      (lines-more w (subst (λ (n : ℕ). WroteLines a b p (chainLinesOf row n asked (unitedBy asked s (n - k)) i k lines) q) t v))
 
-  pub on-empty : chain < k → {e : Bool} → e ≡ holdsEmpty asked → e ≡ true → WroteLines a b p (emptyLinesOf line chain asked s i k lines) q
-      → WroteLines o b at (stepOn line asked s number i k lines) q
+  pub on-empty : chain < k → {e : Bool} → e ≡ holdsEmpty asked → e ≡ true → WroteLines a b p (emptyLinesOf row chain asked s i k lines) q
+      → WroteLines o b at (stepOn row asked s number i k lines) q
   unfolding stepOn
   on-empty h e y v =
       rw (lt-leb k (tOf asked) (omega arith), sym e ∙ y)
-      (lines-more w (subst (λ (n : ℕ). WroteLines a b p (emptyLinesOf line n asked s i k lines) q) t v))
+      (lines-more w (subst (λ (n : ℕ). WroteLines a b p (emptyLinesOf row n asked s i k lines) q) t v))
 
-  pub on-end : chain < k → {e : Bool} → e ≡ holdsEmpty asked → e ≡ false → WroteLines a b p (endLinesOf line chain asked i lines) q
-      → WroteLines o b at (stepOn line asked s number i k lines) q
+  pub on-end : chain < k → {e : Bool} → e ≡ holdsEmpty asked → e ≡ false → WroteLines a b p (endLinesOf row chain asked i lines) q
+      → WroteLines o b at (stepOn row asked s number i k lines) q
   unfolding stepOn
   on-end h e y v =
       rw (lt-leb k (tOf asked) (omega arith), sym e ∙ y)
-      (lines-more w (subst (λ (n : ℕ). WroteLines a b p (endLinesOf line n asked i lines) q) t v))
+      (lines-more w (subst (λ (n : ℕ). WroteLines a b p (endLinesOf row n asked i lines) q) t v))
 
 pub chain-is-t : (body : List ℕ) {C X : List ℕ} → C ≡ keyIn body .context → X ≡ keyIn body .target → length C + length X ≡ tOf (keyIn body)
 unfolding tOf
 chain-is-t body c x = ap₂ (λ (a b : ℕ). a + b) (ap length c) (ap length x)
 
 -- the opening has three lines
-pub opening-short : {o a : List ℕ} {at p : ℕ} (line : List ℕ) (s : Key) (number i k lines : ℕ) → WroteLines o a at (openingOf line s number i k lines) p → p ≤ at + 768
+pub opening-short : {o a : List ℕ} {at p : ℕ} (row : List ℕ) (s : Key) (number i k lines : ℕ) → WroteLines o a at (openingOf row s number i k lines) p → p ≤ at + 768
 unfolding openingOf
-opening-short line s number i k lines w = let h = w .short in omega arith
+opening-short row s number i k lines w = let h = w .short in omega arith
 
--- over the asked line that was put into the local buffer
-pub step-wrote : {o b z line body cited : List ℕ} {at q end : ℕ} (number node branch spot lines : ℕ) → SpotReady body cited node branch spot
-    → Wrote z line 0 (lineOf (keyIn body) branch) end
-    → WroteLines o b at (stepOn (take end line) (keyIn body) (keyIn cited) number node spot lines) q
+-- over the asked row that was put into the local buffer
+pub step-wrote : {o b z row body cited : List ℕ} {at q end : ℕ} (number node branch spot lines : ℕ) → SpotReady body cited node branch spot
+    → Wrote z row 0 (rowOf (keyIn body) branch) end
+    → WroteLines o b at (stepOn (take end row) (keyIn body) (keyIn cited) number node spot lines) q
     → WroteLines o b at (stepLines (keyIn body) (keyIn cited) number node branch spot lines) q
 step-wrote {body = body} {cited} number node branch spot lines r w v =
     lines-is
@@ -104,43 +104,43 @@ pub rule-end : (u t : ℕ) → t ≤ u → _≡_ {A = ℕ} 1 (cond (ltb u t) 10 
 rule-end u t h = rw (le-ltb u t h)
 
 -- the line of the first key, split at u
-module _ {body line : List ℕ} (k : KeyBody body) (is : line ≡ chainOf (keyIn body)) (u : ℕ) {rule : ℕ} (told : rule ≡ cond (ltb u (length line)) 10 1) where
-  long : length line ≡ tOf (keyIn body)
+module _ {body row : List ℕ} (k : KeyBody body) (is : row ≡ chainOf (keyIn body)) (u : ℕ) {rule : ℕ} (told : rule ≡ cond (ltb u (length row)) 10 1) where
+  long : length row ≡ tOf (keyIn body)
   long = ap length is ∙ chain-length (keyIn body)
 
   rule-short : rule < 256
-  rule-short = subst (λ (n : ℕ). n < 256) (sym told) (go (ltb u (length line)))
+  rule-short = subst (λ (n : ℕ). n < 256) (sym told) (go (ltb u (length row)))
     where
       go : (b : Bool) → cond b 10 1 < 256
       go true = omega arith
       go false = omega arith
 
-  pub split-fits : {out : List ℕ} → u ≤ length line → 256 ≤ length out → OfKeyFits out 0 rule (take u line) (take (length line - u) (drop u line)) body
+  pub split-fits : {out : List ℕ} → u ≤ length row → 256 ≤ length out → OfKeyFits out 0 rule (take u row) (take (length row - u) (drop u row)) body
   split-fits h r =
       let l = long in
-      let n = Ready.chain-short k in
-      let a = length-take u line in
-      let b = ap length (part-to-end line u) ∙ length-drop u line in
+      let n = Asks.chain-short k in
+      let a = length-take u row in
+      let b = ap length (part-to-end row u) ∙ length-drop u row in
       record {
         rule-fits = rule-short;
-        line = record { context-short = omega arith; target-short = omega arith; room = omega arith };
+        lineRoom = record { context-short = omega arith; target-short = omega arith; room = omega arith };
         key = k;
       }
 
   pub split-wrote : {o b : List ℕ} {r : ℕ}
-      → WroteLines o b 0 (oneLine rule 65535 (keyOf (take u line) (take (length line - u) (drop u line)) (keyIn body .paths)) ∷ []) r
+      → WroteLines o b 0 (oneLine rule 65535 (keyOf (take u row) (take (length row - u) (drop u row)) (keyIn body .paths)) ∷ []) r
       → WroteLines o b 0 (firstLine (keyIn body) u ∷ []) r
   unfolding firstLine keyAt
   split-wrote w =
       lines-is
-      (ap₂ (λ (n : ℕ) (l : List ℕ). oneLine n 65535 (keyOf (take u line) l (keyIn body .paths)) ∷ [])
-      (told ∙ ap (λ (m : ℕ). cond (ltb u m) 10 1) long) (part-to-end line u)
+      (ap₂ (λ (n : ℕ) (l : List ℕ). oneLine n 65535 (keyOf (take u row) l (keyIn body .paths)) ∷ [])
+      (told ∙ ap (λ (m : ℕ). cond (ltb u m) 10 1) long) (part-to-end row u)
       ∙ ap (λ (l : List ℕ). oneLine (cond (ltb u (tOf (keyIn body))) 10 1) 65535 (keyOf (take u l) (drop u l) (keyIn body .paths)) ∷ []) is)
       w
 
 module _ {body C X : List ℕ} (k : KeyBody body) (c : C ≡ keyIn body .context) (x : X ≡ keyIn body .target) where
   -- the line that is put together
-  pub chain-put : {z y line : List ℕ} {i end : ℕ} → Wrote z y 0 C i → Wrote y line i X end → take end line ≡ chainOf (keyIn body)
+  pub chain-put : {z y row : List ℕ} {i end : ℕ} → Wrote z y 0 C i → Wrote y row i X end → take end row ≡ chainOf (keyIn body)
   unfolding chainOf
   chain-put w v = wrote-part (wrote-more w v) ∙ ap₂ (λ (a b : List ℕ). a ++ b) c x
 
@@ -150,7 +150,7 @@ module _ {body C X : List ℕ} (k : KeyBody body) (c : C ≡ keyIn body .context
       let e = ap length x in
       let u = k .fits .context-short in
       let m = k .fits .target-short in
-      record { rule-fits = omega arith; line = record { context-short = omega arith; target-short = omega arith; room = r }; key = k }
+      record { rule-fits = omega arith; lineRoom = record { context-short = omega arith; target-short = omega arith; room = r }; key = k }
 
   pub last-is : KeyNormal (keyIn body) → keyOf C X (keyIn body .paths) ≡ keyIn body
   last-is n = ap₂ (λ (A B : List ℕ). keyOf A B (keyIn body .paths)) c x ∙ key-normal (keyIn body) n

@@ -28,14 +28,14 @@ ghost use Rattle.meaning.specs.Records.{keyIn};
 ghost use mathlib.Core.Bool.{cond};
 ghost use lib.Dec.{ltb};
 ghost use Rattle.meaning.specs.Pattern.{tOf};
-ghost use Rattle.theory_derive.specs.Spots.{chainOf, lineOf};
+ghost use Rattle.theory_pattern.specs.Spots.{chainOf, rowOf};
 ghost use Rattle.theory_derive.specs.Written.{stepLines, firstLine};
 ghost use Rattle.step_search.specs.Finding.{stepsBelow};
 ghost use Rattle.step_search.specs.Ranges.{stepOf};
 ghost use Rattle.write_bytes.specs.Wrote.{Wrote};
 ghost use Rattle.write_step.specs.Fits.{KeyBody};
 ghost use Rattle.write_step.specs.Lines.{WroteLines};
-ghost use Rattle.write_proof.specs.Ready.{AskedLine, OnLine, SpotReady, StepRoom, TakenReady, ProofReady};
+ghost use Rattle.write_proof.specs.Asks.{AskedRow, OnRow, SpotReady, StepRoom, TakenReady, ProofReady};
 ghost use Rattle.write_proof.specs.Sizes.{sizeOf};
 ghost use Rattle.write_proof.specs.Cited.{stepOn, takenBy, proofBy};
 
@@ -51,43 +51,43 @@ const BRANCH_LINES: usize = 5;
 const LINE_SYMBOLS: usize = 24;
 
 // Line j of the asked key.
-fn put_asked(line: &mut [u8], asked: &[u8], branch: usize) -> usize
-    requires { ⌜ AskedLine (now line) (now asked) branch ⌝ }
-    ensures { λ r. ⌜ Wrote (now (line .entry)) (now (line .exit)) 0 (lineOf (keyIn (now (asked .entry))) branch) r ⌝ }
+fn put_asked(row: &mut [u8], asked: &[u8], branch: usize) -> usize
+    requires { ⌜ AskedRow (now row) (now asked) branch ⌝ }
+    ensures { λ r. ⌜ Wrote (now (row .entry)) (now (row .exit)) 0 (rowOf (keyIn (now (asked .entry))) branch) r ⌝ }
 {
-    let target_at = put(line, 0, context(asked));
-    let path_at = put(line, target_at, target(asked));
-    put(line, path_at, path(asked, branch))
+    let target_at = put(row, 0, context(asked));
+    let path_at = put(row, target_at, target(asked));
+    put(row, path_at, path(asked, branch))
 }
 
 // The lines of a step whose line is given.
 fn write_on(
     out: &mut [u8],
     place: Place,
-    line: &[u8],
+    row: &[u8],
     asked: &[u8],
     cited: &[u8],
     taken: Taken,
 ) -> usize
-    requires { ⌜ OnLine (now out) (place .at) (place .lines) (now line) (now asked) (now cited) (taken .node) (taken .spot) ⌝ }
-    ensures { λ r. ⌜ WroteLines (now (out .entry)) (now (out .exit)) (place .at) (stepOn (now (line .entry)) (keyIn (now (asked .entry))) (keyIn (now (cited .entry))) (taken .key) (taken .node) (taken .spot) (place .lines)) r ⌝ }
+    requires { ⌜ OnRow (now out) (place .at) (place .lines) (now row) (now asked) (now cited) (taken .node) (taken .spot) ⌝ }
+    ensures { λ r. ⌜ WroteLines (now (out .entry)) (now (out .exit)) (place .at) (stepOn (now (row .entry)) (keyIn (now (asked .entry))) (keyIn (now (cited .entry))) (taken .key) (taken .node) (taken .spot) (place .lines)) r ⌝ }
 {
     let chain = context(asked).len() + target(asked).len();
     let node = taken.node;
     let spot = taken.spot;
-    let next = write_opening(out, place, line, cited, taken.key, node, spot);
+    let next = write_opening(out, place, row, cited, taken.key, node, spot);
     let behind = Place {
         at: next,
         lines: place.lines,
     };
     let step = Step { chain, node, spot };
     if spot <= chain {
-        return write_chain(out, behind, line, step, asked, cited);
+        return write_chain(out, behind, row, step, asked, cited);
     }
     if holds_empty(asked) {
-        return write_empty(out, behind, line, step, asked, cited);
+        return write_empty(out, behind, row, step, asked, cited);
     }
-    write_end(out, next, place.lines, line, chain, node, asked)
+    write_end(out, next, place.lines, row, chain, node, asked)
 }
 
 // The lines of a step with the cited key's body.
@@ -95,9 +95,9 @@ fn write_step(out: &mut [u8], place: Place, asked: &[u8], cited: &[u8], taken: T
     requires { ⌜ SpotReady (now asked) (now cited) (taken .node) (taken .branch) (taken .spot) × StepRoom (now out) (place .at) (place .lines) ⌝ }
     ensures { λ r. ⌜ WroteLines (now (out .entry)) (now (out .exit)) (place .at) (stepLines (keyIn (now (asked .entry))) (keyIn (now (cited .entry))) (taken .key) (taken .node) (taken .branch) (taken .spot) (place .lines)) r ⌝ }
 {
-    let mut line = [0u8; LINE_SYMBOLS];
-    let end = put_asked(&mut line, asked, taken.branch);
-    write_on(out, place, &line[..end], asked, cited, taken)
+    let mut row = [0u8; LINE_SYMBOLS];
+    let end = put_asked(&mut row, asked, taken.branch);
+    write_on(out, place, &row[..end], asked, cited, taken)
 }
 
 // The lines of a remembered step: key number s is record labels + s, where so many records stand before the keys.
@@ -152,12 +152,12 @@ fn first_rule(u: usize, end: usize) -> usize
 }
 
 // K u over the line from root to t.
-fn write_split(out: &mut [u8], line: &[u8], u: usize, asked: &[u8]) -> usize
-    requires { ⌜ KeyBody (now asked) × (256 ≤ length (now out)) × (now line ≡ chainOf (keyIn (now asked))) × (u ≤ length (now line)) ⌝ }
+fn write_split(out: &mut [u8], row: &[u8], u: usize, asked: &[u8]) -> usize
+    requires { ⌜ KeyBody (now asked) × (256 ≤ length (now out)) × (now row ≡ chainOf (keyIn (now asked))) × (u ≤ length (now row)) ⌝ }
     ensures { λ r. ⌜ WroteLines (now (out .entry)) (now (out .exit)) 0 (firstLine (keyIn (now (asked .entry))) u ∷ []) r ⌝ }
 {
-    let rule = first_rule(u, line.len());
-    write_of_key(out, 0, rule, NO_NUMBER, &line[..u], &line[u..], asked)
+    let rule = first_rule(u, row.len());
+    write_of_key(out, 0, rule, NO_NUMBER, &row[..u], &row[u..], asked)
 }
 
 // The first line, K u: its target is empty where u is t, else the attribute t alone.
@@ -165,10 +165,10 @@ fn write_first(out: &mut [u8], asked: &[u8], u: usize) -> usize
     requires { ⌜ KeyBody (now asked) × (256 ≤ length (now out)) × (u ≤ tOf (keyIn (now asked))) ⌝ }
     ensures { λ r. ⌜ WroteLines (now (out .entry)) (now (out .exit)) 0 (firstLine (keyIn (now (asked .entry))) u ∷ []) r ⌝ }
 {
-    let mut line = [0u8; LINE_SYMBOLS];
-    let next = put(&mut line, 0, context(asked));
-    let end = put(&mut line, next, target(asked));
-    write_split(out, &line[..end], u, asked)
+    let mut row = [0u8; LINE_SYMBOLS];
+    let next = put(&mut row, 0, context(asked));
+    let end = put(&mut row, next, target(asked));
+    write_split(out, &row[..end], u, asked)
 }
 
 // The proof, from the front of the buffer; the bytes used.

@@ -6,7 +6,7 @@ use mathlib.Core.List.{List, [], _∷_, _++_, map, flatten, append-assoc}
 use lib.ListN.{length, take}
 use Rattle.meaning.specs.Lists.{isEmpty}
 use Rattle.meaning.specs.Records.{pathBytes}
-use Rattle.read_record.specs.Parts.{afterPath, pathsEnd, pathsOf}
+use Rattle.read_record.specs.BodyParts.{afterPath, pathsEnd, pathsOf}
 use Rattle.read_record.specs.PathBytes.{holds-front, lead-front, after-front}
 
 unfoldable pub bytesOf : List (List ℕ) → List ℕ

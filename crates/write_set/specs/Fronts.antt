@@ -6,7 +6,7 @@ use mathlib.Core.List.{List, [], _∷_, _++_, map, flatten, append-assoc, append
 use native.Mathlib.Omega.{arith}
 use lib.ListN.{length, length-append, length-map}
 use Rattle.meaning.specs.Records.{pathBytes}
-use Rattle.read_record.specs.Parts.{leadPath, afterPath, pathsEnd, pathsOf}
+use Rattle.read_record.specs.BodyParts.{leadPath, afterPath, pathsEnd, pathsOf}
 use Rattle.read_record.specs.KeyPaths.{paths-count, step-holds}
 use Rattle.write_bytes.specs.Wrote.{Wrote, wrote-more, wrote-part, wrote-none, wrote-is}
 use Rattle.write_line.specs.LineParts.{Sized}

@@ -7,7 +7,7 @@ use native.Mathlib.Omega.{arith}
 use lib.ListN.{length, take, drop, length-append, length-drop}
 use lib.Seq.{take-at, length-take-le, take-take, take-nil}
 use Rattle.meaning.specs.Records.{pathBytes}
-use Rattle.read_record.specs.Parts.{pathsEnd, pathsOf}
+use Rattle.read_record.specs.BodyParts.{pathsEnd, pathsOf}
 use Rattle.read_record.specs.KeyPaths.{paths-count}
 use Rattle.write_bytes.specs.Wrote.{Wrote, written, wrote-more, wrote-part}
 use Rattle.write_line.specs.LineParts.{Sized}

@@ -9,7 +9,7 @@ use lib.ListN.{length, take, drop, length-append}
 use lib.Seq.{take-at, drop-at}
 use Rattle.meaning.specs.Lists.{same, before}
 use Rattle.meaning.specs.Records.{pathBytes}
-use Rattle.read_record.specs.Parts.{holdsPath, leadPath, afterPath, pathsEnd, pathsOf}
+use Rattle.read_record.specs.BodyParts.{holdsPath, leadPath, afterPath, pathsEnd, pathsOf}
 use Rattle.read_record.specs.KeyPaths.{paths-count, step-holds, step-ends}
 use Rattle.read_record.specs.PathBytes.{path-bytes, paths-bytes}
 use Rattle.theory_derive.specs.Sets.{insert}
@@ -69,16 +69,18 @@ path-length rest h {p} f {next} n =
     let z = ap length n in
     omega arith
 
+-- where what is passed ends and what is left begins
+module _ (passed : List (List ℕ)) (rest : List ℕ) {paths : List ℕ} (bytes : bytesOf passed ++ rest ≡ paths) where
+  passed-length : length (bytesOf passed) ≡ length paths - length rest
+  passed-length = let e = length-append (bytesOf passed) rest in let f = ap length bytes in omega arith
+
+  pub passed-front : take (length paths - length rest) paths ≡ bytesOf passed
+  passed-front = ap (take (length paths - length rest)) (sym bytes) ∙ take-at (bytesOf passed) rest (length paths - length rest) passed-length
+
+  pub passed-rest : drop (length paths - length rest) paths ≡ rest
+  passed-rest = ap (drop (length paths - length rest)) (sym bytes) ∙ drop-at (bytesOf passed) rest (length paths - length rest) passed-length
+
 module _ {count : ℕ} {paths path : List ℕ} {left : ℕ} {rest : List ℕ} (s : Seeking count paths path left rest) where
-  place-length : length (bytesOf (s .passed)) ≡ length paths - length rest
-  place-length = let e = length-append (bytesOf (s .passed)) rest in let f = ap length (s .bytes) in omega arith
-
-  place-front : take (length paths - length rest) paths ≡ bytesOf (s .passed)
-  place-front = ap (take (length paths - length rest)) (sym (s .bytes)) ∙ take-at (bytesOf (s .passed)) rest (length paths - length rest) place-length
-
-  place-rest : drop (length paths - length rest) paths ≡ rest
-  place-rest = ap (drop (length paths - length rest)) (sym (s .bytes)) ∙ drop-at (bytesOf (s .passed)) rest (length paths - length rest) place-length
-
   -- the path goes in front of what is left
   here : insert path (pathsOf left rest) ≡ path ∷ pathsOf left rest → PlaceIn count paths path (length paths - length rest) false
   unfolding bytesOf flatten
@@ -88,7 +90,7 @@ module _ {count : ℕ} {paths path : List ℕ} {left : ℕ} {rest : List ℕ} (s
         within = omega arith;
         new = λ _.
             ap bytesOf all ∙ bytes-append (s .passed) (path ∷ pathsOf left rest)
-            ∙ ap₂ (λ (a b : List ℕ). a ++ (pathBytes path ++ b)) (sym place-front) (paths-bytes left rest (s .ends) ∙ sym place-rest);
+            ∙ ap₂ (λ (a b : List ℕ). a ++ (pathBytes path ++ b)) (sym (passed-front (s .passed) rest (s .bytes))) (paths-bytes left rest (s .ends) ∙ sym (passed-rest (s .passed) rest (s .bytes)));
         more = λ _.
             sym (ap length all ∙ length-append (s .passed) (path ∷ pathsOf left rest)
             ∙ (let n = paths-count left rest in let m = s .number in omega arith));

@@ -6,7 +6,7 @@ use mathlib.Core.List.{List, map}
 use native.Mathlib.Omega.{arith}
 use lib.ListN.{length, take, drop, length-drop, drop-of-length-le}
 use borrow.Rule.Slice.PartAt.{part-to-end}
-use Rattle.read_record.specs.Parts.{leadPath, afterPath, pathsEnd, pathsOf}
+use Rattle.read_record.specs.BodyParts.{leadPath, afterPath, pathsEnd, pathsOf}
 use Rattle.read_record.specs.KeyPaths.{paths-count, step-holds}
 use Rattle.write_bytes.specs.Wrote.{Wrote, wrote-part}
 use Rattle.theory_derive.specs.Sets.{insert, unite}

@@ -12,7 +12,7 @@ ghost use mathlib.Core.List.{_++_};
 ghost use Prim.Native.Nat.{_+_, _≤_, _<_};
 ghost use lib.ListN.{length, drop};
 ghost use Rattle.meaning.specs.Records.{pathBytes};
-ghost use Rattle.read_record.specs.Parts.{pathsEnd};
+ghost use Rattle.read_record.specs.BodyParts.{pathsEnd};
 ghost use Rattle.write_line.specs.LineParts.{Sized};
 ghost use Rattle.write_set.specs.Places.{PlaceIn};
 ghost use Rattle.write_set.specs.Inserts.{InsertFits, Inserted};

@@ -10,13 +10,13 @@ use Rattle.meaning.specs.Lists.{Each}
 use Rattle.meaning.specs.Paths.{Label}
 use Rattle.meaning.specs.Keys.{Key}
 use Rattle.meaning.specs.Records.{readKey, keyIn, isSome, pathBytes}
-use Rattle.read_record.specs.Parts.{pathsEnd, pathsOf}
+use Rattle.read_record.specs.BodyParts.{pathsEnd, pathsOf}
 use Rattle.read_record.specs.KeyPaths.{AtPath}
 use Rattle.read_record.specs.PathBytes.{paths-bytes}
-use Rattle.theory_paths.specs.Bools.{Each-of}
+use Rattle.theory_lists.specs.Bools.{Each-of}
 use Rattle.theory_paths.specs.Good.{GoodKey, context-length, target-length, key-path-length, paths-within}
 use Rattle.theory_derive.specs.Bytes.{flatten-length}
-use Rattle.theory_derive.specs.Logic.{each-imp}
+use Rattle.theory_lists.specs.Logic.{each-imp}
 
 -- "a path of 8 symbols and 4 key paths in profile and question"
 pub record KeyFits (k : Key) : Type 0 where
@@ -74,5 +74,5 @@ pub record LineRoom (out : List ℕ) (at : ℕ) (context target : List ℕ) : Ty
 
 pub record OfKeyFits (out : List ℕ) (at rule : ℕ) (context target body : List ℕ) : Type 0 where
   pub rule-fits : rule < 256
-  pub line : LineRoom out at context target
+  pub lineRoom : LineRoom out at context target
   pub key : KeyBody body

@@ -1,7 +1,7 @@
 -- The lines of one step.
 pub mod Fits
 pub mod Lines
-pub mod Parts
+pub mod RowKeys
 pub mod Singles
 pub mod StepFits
 pub mod StepLines

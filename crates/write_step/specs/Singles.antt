@@ -8,7 +8,7 @@ use borrow.Author.Tests.{le-ltb, ne-eqb}
 use Rattle.meaning.specs.Lists.{same, lower, before}
 use Rattle.meaning.specs.Rules.{withEmpty}
 use Rattle.meaning.specs.Records.{keyIn, pathBytes, lineBytes}
-use Rattle.read_record.specs.Parts.{pathsEnd, pathsOf}
+use Rattle.read_record.specs.BodyParts.{pathsEnd, pathsOf}
 use Rattle.read_record.specs.KeyPaths.{AtPath}
 use Rattle.write_bytes.specs.Wrote.{Wrote, wrote-part}
 use Rattle.write_line.specs.LineParts.{LineFits, WroteLine, Sized}
@@ -18,7 +18,7 @@ use Rattle.theory_derive.specs.Sets.{insert}
 use Rattle.theory_derive.specs.Written.{keyOf, twoLine, oneLine}
 use Rattle.write_step.specs.Fits.{KeyBody, body-set, OfKeyFits}
 use Rattle.write_step.specs.Lines.{WroteLines, line-one}
-use Rattle.write_step.specs.Parts.{between, PartRoom, SetFits, SmallSet, rest-short, set-in-fits, of-body}
+use Rattle.write_step.specs.RowKeys.{between, PartRoom, SetFits, SmallSet, rest-short, set-in-fits, of-body}
 
 -- ---- the paths of a key
 
@@ -33,7 +33,7 @@ module _ {body bytes : List ℕ} {count : ℕ} (a : AtPath (keyIn body .paths) 0
         context-short = omega arith;
         target-short = omega arith;
         short = omega arith;
-        room = f .line .room;
+        room = f .lineRoom .room;
         ends = s .ends;
       }
 
@@ -51,8 +51,8 @@ one-in {path = path} w =
     set-in (path ∷ []) (let r = w .wrote .room in let a = w .wrote .after in let k = w .wrote .kept in omega arith) refl
     (wrote-part (w .wrote) ∙ sym (append-nil (pathBytes path)))
 
-pub one-fits : {out line z buffer : List ℕ} {at from to used : ℕ} → PartRoom out at line from to
-    → Sized z buffer 0 (pathBytes (between to (length line) line)) (length (between to (length line) line) + 1) used → SetFits 1 (take used buffer)
+pub one-fits : {out row z buffer : List ℕ} {at from to used : ℕ} → PartRoom out at row from to
+    → Sized z buffer 0 (pathBytes (between to (length row) row)) (length (between to (length row) row) + 1) used → SetFits 1 (take used buffer)
 one-fits r w = set-in-fits (one-in w) (omega arith) (let s = w .size in let h = rest-short r in omega arith)
 
 -- {empty, p}
@@ -65,21 +65,21 @@ empty-in : {buffer mid : List ℕ} {used : ℕ} → Wrote buffer mid 0 (0 ∷ []
 unfolding bytesOf flatten pathBytes
 empty-in w = set-in ([] ∷ []) (let r = w .room in let a = w .after in let k = w .kept in omega arith) refl (wrote-part w)
 
-module _ {out line buffer mid : List ℕ} {at from to used : ℕ} (p : PartRoom out at line from to) (w : Wrote buffer mid 0 (0 ∷ []) used) where
-  pub pair-fits : 128 ≤ length buffer → InsertFits mid 1 used (between to (length line) line)
+module _ {out row buffer mid : List ℕ} {at from to used : ℕ} (p : PartRoom out at row from to) (w : Wrote buffer mid 0 (0 ∷ []) used) where
+  pub pair-fits : 128 ≤ length buffer → InsertFits mid 1 used (between to (length row) row)
   pair-fits b =
       let h = rest-short p in
       let a = w .after in
       let k = w .kept in
       record { few = omega arith; path-short = omega arith; small = omega arith; room = omega arith; ends = empty-in w .ends }
 
-  pub pair-in : {end : List ℕ} {count last : ℕ} → Inserted mid 1 used (between to (length line) line) end count last
-      → SmallSet buffer end count last (withEmpty (between to (length line) line))
+  pub pair-in : {end : List ℕ} {count last : ℕ} → Inserted mid 1 used (between to (length row) row) end count last
+      → SmallSet buffer end count last (withEmpty (between to (length row) row))
   pair-in {end} {count} {last} i =
       let h = rest-short p in
       let a = w .after in
       record {
-        holds = subst (SetIn end count last) (ap (insert (between to (length line) line)) (empty-in w .are) ∙ pair-insert (between to (length line) line))
+        holds = subst (SetIn end count last) (ap (insert (between to (length row) row)) (empty-in w .are) ∙ pair-insert (between to (length row) row))
             (i .holds);
         kept = i .kept ∙ w .kept;
         few = let f = i .fewer in omega arith;

@@ -9,39 +9,39 @@ use Rattle.meaning.specs.Records.{keyIn}
 use Rattle.write_step.specs.Fits.{KeyBody, OfKeyFits}
 use Rattle.write_step.specs.Lines.{WroteLines}
 
-pub record OpeningFits (out : List ℕ) (at lines : ℕ) (line cited : List ℕ) (node spot : ℕ) : Type 0 where
+pub record OpeningFits (out : List ℕ) (at lines : ℕ) (row cited : List ℕ) (node spot : ℕ) : Type 0 where
   pub room : at + 768 ≤ length out
   pub few : lines < 60000
   pub node-short : node ≤ 16
   pub above : node ≤ spot
-  pub within : spot ≤ length line
-  pub line-short : length line ≤ 24
+  pub within : spot ≤ length row
+  pub row-short : length row ≤ 24
   pub key : KeyBody cited
 
 -- room for so many lines; the chain has `chain` symbols, the step goes from `spot` to `node`
-pub record StepFits (out : List ℕ) (at many lines : ℕ) (line : List ℕ) (chain node spot : ℕ) (asked : List ℕ) : Type 0 where
+pub record StepFits (out : List ℕ) (at many lines : ℕ) (row : List ℕ) (chain node spot : ℕ) (asked : List ℕ) : Type 0 where
   pub room : at + 256 * many ≤ length out
   pub some : 1 ≤ lines
   pub few : lines < 60000
   pub chain-short : chain ≤ 16
-  pub line-short : length line ≤ 24
-  pub chain-within : chain ≤ length line
+  pub row-short : length row ≤ 24
+  pub chain-within : chain ≤ length row
   pub on-chain : node ≤ chain
   pub above : node ≤ spot
-  pub within : spot ≤ length line
+  pub within : spot ≤ length row
   pub key : KeyBody asked
 
 -- ---- what a call asks
 
-pub meeting-fits : {out line asked : List ℕ} {at lines chain node spot : ℕ} → StepFits out at 5 lines line chain node spot asked
-    → StepFits out at 3 lines line chain node spot asked
+pub meeting-fits : {out row asked : List ℕ} {at lines chain node spot : ℕ} → StepFits out at 5 lines row chain node spot asked
+    → StepFits out at 3 lines row chain node spot asked
 meeting-fits f =
     record {
       room = omega arith;
       some = f .some;
       few = f .few;
       chain-short = f .chain-short;
-      line-short = f .line-short;
+      row-short = f .row-short;
       chain-within = f .chain-within;
       on-chain = f .on-chain;
       above = f .above;
@@ -49,7 +49,7 @@ meeting-fits f =
       key = f .key;
     }
 
-module _ {out line cited X : List ℕ} {at lines node spot : ℕ} (f : OpeningFits out at lines line cited node spot) (x : X ≡ keyIn cited .target) where
+module _ {out row cited X : List ℕ} {at lines node spot : ℕ} (f : OpeningFits out at lines row cited node spot) (x : X ≡ keyIn cited .target) where
   pub cited-fits : {C : List ℕ} → C ≡ keyIn cited .context → OfKeyFits out at 0 C X cited
   cited-fits c =
       let k = f .key .fits in
@@ -57,18 +57,18 @@ module _ {out line cited X : List ℕ} {at lines node spot : ℕ} (f : OpeningFi
       let d = ap length x in
       record {
         rule-fits = omega arith;
-        line = record { context-short = omega arith; target-short = omega arith; room = omega arith };
+        lineRoom = record { context-short = omega arith; target-short = omega arith; room = omega arith };
         key = f .key;
       }
 
   -- behind the first line
-  pub narrowed-fits : {mid : List ℕ} {l : Line} {next : ℕ} → WroteLines out mid at (l ∷ []) next → OfKeyFits mid next 5 (take node line) X cited
+  pub narrowed-fits : {mid : List ℕ} {l : Line} {next : ℕ} → WroteLines out mid at (l ∷ []) next → OfKeyFits mid next 5 (take node row) X cited
   narrowed-fits w =
       let k = f .key .fits in
-      let e = length-take node line in
+      let e = length-take node row in
       let d = ap length x in
       record {
         rule-fits = omega arith;
-        line = record { context-short = omega arith; target-short = omega arith; room = omega arith };
+        lineRoom = record { context-short = omega arith; target-short = omega arith; room = omega arith };
         key = f .key;
       }

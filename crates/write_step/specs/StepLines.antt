@@ -8,94 +8,94 @@ use lib.ListN.{length, take, drop}
 use Rattle.meaning.specs.Rules.{Line, withEmpty}
 use Rattle.meaning.specs.Keys.{Key}
 use Rattle.meaning.specs.Records.{keyIn}
-use Rattle.read_record.specs.Parts.{pathsEnd, pathsOf}
+use Rattle.read_record.specs.BodyParts.{pathsEnd, pathsOf}
 use Rattle.read_record.specs.KeyPaths.{AtPath}
 use Rattle.write_bytes.specs.Wrote.{Wrote, wrote-part}
 use Rattle.write_set.specs.Encoded.{SetIn}
 use Rattle.write_set.specs.Unions.{UniteFits, United, unitedOf}
 use Rattle.write_set.specs.Fronts.{inFront}
 use Rattle.theory_derive.specs.Sets.{insert, unite}
-use Rattle.theory_derive.specs.Spots.{holdsEmpty}
+use Rattle.theory_pattern.specs.Spots.{holdsEmpty}
 use Rattle.theory_derive.specs.Written.{keyOf, twoLine, oneLine}
 use Rattle.write_step.specs.Fits.{KeyBody, body-set}
 use Rattle.write_step.specs.Lines.{WroteLines, lines-more, lines-is}
-pub use Rattle.write_step.specs.Parts.{between}
-use Rattle.write_step.specs.Parts.{keyAlong, SmallSet}
+pub use Rattle.write_step.specs.RowKeys.{between}
+use Rattle.write_step.specs.RowKeys.{keyAlong, SmallSet}
 
-unfoldable pub openingOf : (line : List ℕ) (s : Key) (number i k lines : ℕ) → List Line
-openingOf line s number i k lines =
-    oneLine 0 number (keyOf (s .context) (s .target) (s .paths)) ∷ oneLine 5 lines (keyOf (take i line) (s .target) (s .paths))
-    ∷ oneLine 6 (lines + 1) (keyAlong line i k (s .paths)) ∷ []
+unfoldable pub openingOf : (row : List ℕ) (s : Key) (number i k lines : ℕ) → List Line
+openingOf row s number i k lines =
+    oneLine 0 number (keyOf (s .context) (s .target) (s .paths)) ∷ oneLine 5 lines (keyOf (take i row) (s .target) (s .paths))
+    ∷ oneLine 6 (lines + 1) (keyAlong row i k (s .paths)) ∷ []
 
 unfoldable pub unitedBy : (asked s : Key) (front : ℕ) → List (List ℕ)
 unitedBy asked s front = cond (holdsEmpty asked) (unite (asked .paths) (map (drop front) (s .paths))) (asked .paths)
 
 -- the lines up to the two that rule 9 joins
-abbrev pub meetingLinesOf : (line : List ℕ) (n : ℕ) (asked : Key) (U : List (List ℕ)) (i k lines : ℕ) → List Line
-meetingLinesOf line n asked U i k lines =
-    oneLine 3 (lines + 2) (keyAlong line i k (inFront (between k n line) U)) ∷ oneLine 7 (lines - 1) (keyAlong line k n (asked .paths))
-    ∷ oneLine 3 (lines + 4) (keyAlong line k n U) ∷ []
+abbrev pub meetingLinesOf : (row : List ℕ) (n : ℕ) (asked : Key) (U : List (List ℕ)) (i k lines : ℕ) → List Line
+meetingLinesOf row n asked U i k lines =
+    oneLine 3 (lines + 2) (keyAlong row i k (inFront (between k n row) U)) ∷ oneLine 7 (lines - 1) (keyAlong row k n (asked .paths))
+    ∷ oneLine 3 (lines + 4) (keyAlong row k n U) ∷ []
 
-unfoldable pub chainLinesOf : (line : List ℕ) (n : ℕ) (asked : Key) (U : List (List ℕ)) (i k lines : ℕ) → List Line
-chainLinesOf line n asked U i k lines =
-    meetingLinesOf line n asked U i k lines
-    ++ (twoLine 9 (lines + 3) (lines + 5) (keyAlong line i n U)
-    ∷ cond (holdsEmpty asked) (oneLine 2 (lines + 6) (keyAlong line i n (asked .paths)) ∷ []) [])
+unfoldable pub chainLinesOf : (row : List ℕ) (n : ℕ) (asked : Key) (U : List (List ℕ)) (i k lines : ℕ) → List Line
+chainLinesOf row n asked U i k lines =
+    meetingLinesOf row n asked U i k lines
+    ++ (twoLine 9 (lines + 3) (lines + 5) (keyAlong row i n U)
+    ∷ cond (holdsEmpty asked) (oneLine 2 (lines + 6) (keyAlong row i n (asked .paths)) ∷ []) [])
 
-unfoldable pub endLinesOf : (line : List ℕ) (n : ℕ) (asked : Key) (i lines : ℕ) → List Line
-endLinesOf line n asked i lines =
-    oneLine 4 (lines + 2) (keyAlong line i n (between n (length line) line ∷ [])) ∷ oneLine 3 (lines + 3) (keyAlong line i n (asked .paths)) ∷ []
+unfoldable pub endLinesOf : (row : List ℕ) (n : ℕ) (asked : Key) (i lines : ℕ) → List Line
+endLinesOf row n asked i lines =
+    oneLine 4 (lines + 2) (keyAlong row i n (between n (length row) row ∷ [])) ∷ oneLine 3 (lines + 3) (keyAlong row i n (asked .paths)) ∷ []
 
-unfoldable pub emptyLinesOf : (line : List ℕ) (n : ℕ) (asked s : Key) (i k lines : ℕ) → List Line
-emptyLinesOf line n asked s i k lines =
-    oneLine 3 (lines + 2) (keyAlong line i k (insert [] (s .paths)))
-    ∷ oneLine 2 (lines + 3) (keyAlong line i k (withEmpty (between k (length line) line)))
-    ∷ oneLine 8 (lines + 4) (keyAlong line i n (withEmpty (between n (length line) line)))
-    ∷ oneLine 3 (lines + 5) (keyAlong line i n (asked .paths)) ∷ []
+unfoldable pub emptyLinesOf : (row : List ℕ) (n : ℕ) (asked s : Key) (i k lines : ℕ) → List Line
+emptyLinesOf row n asked s i k lines =
+    oneLine 3 (lines + 2) (keyAlong row i k (insert [] (s .paths)))
+    ∷ oneLine 2 (lines + 3) (keyAlong row i k (withEmpty (between k (length row) row)))
+    ∷ oneLine 8 (lines + 4) (keyAlong row i n (withEmpty (between n (length row) row)))
+    ∷ oneLine 3 (lines + 5) (keyAlong row i n (asked .paths)) ∷ []
 
 -- ---- one law for each return; what was written last stands first
 
-module _ {o a b d : List ℕ} {at p q r : ℕ} (line : List ℕ) (s : Key) (number i k lines : ℕ) where
-  pub opening-wrote : {C X : List ℕ} → WroteLines b d q (oneLine 6 (lines + 1) (keyAlong line i k (s .paths)) ∷ []) r
-      → WroteLines a b p (oneLine 5 lines (keyOf (take i line) X (s .paths)) ∷ []) q
+module _ {o a b d : List ℕ} {at p q r : ℕ} (row : List ℕ) (s : Key) (number i k lines : ℕ) where
+  pub opening-wrote : {C X : List ℕ} → WroteLines b d q (oneLine 6 (lines + 1) (keyAlong row i k (s .paths)) ∷ []) r
+      → WroteLines a b p (oneLine 5 lines (keyOf (take i row) X (s .paths)) ∷ []) q
       → WroteLines o a at (oneLine 0 number (keyOf C X (s .paths)) ∷ []) p → C ≡ s .context → X ≡ s .target
-      → WroteLines o d at (openingOf line s number i k lines) r
+      → WroteLines o d at (openingOf row s number i k lines) r
   unfolding openingOf
   opening-wrote u v w c x =
       lines-is
-      (ap₂ (λ (C X : List ℕ). oneLine 0 number (keyOf C X (s .paths)) ∷ oneLine 5 lines (keyOf (take i line) X (s .paths)) ∷ oneLine 6 (lines + 1) (keyAlong line i k (s .paths)) ∷ [])
+      (ap₂ (λ (C X : List ℕ). oneLine 0 number (keyOf C X (s .paths)) ∷ oneLine 5 lines (keyOf (take i row) X (s .paths)) ∷ oneLine 6 (lines + 1) (keyAlong row i k (s .paths)) ∷ [])
       c x)
       (lines-more w (lines-more v u))
 
-module _ {o a b : List ℕ} {at p q : ℕ} (line : List ℕ) (n : ℕ) (asked : Key) (U : List (List ℕ)) (i k lines : ℕ) where
-  pub chain-wrote : WroteLines a b p (twoLine 9 (lines + 3) (lines + 5) (keyAlong line i n U) ∷ []) q
-      → WroteLines o a at (meetingLinesOf line n asked U i k lines) p → {e : Bool} → e ≡ holdsEmpty asked → e ≡ false
-      → WroteLines o b at (chainLinesOf line n asked U i k lines) q
+module _ {o a b : List ℕ} {at p q : ℕ} (row : List ℕ) (n : ℕ) (asked : Key) (U : List (List ℕ)) (i k lines : ℕ) where
+  pub chain-wrote : WroteLines a b p (twoLine 9 (lines + 3) (lines + 5) (keyAlong row i n U) ∷ []) q
+      → WroteLines o a at (meetingLinesOf row n asked U i k lines) p → {e : Bool} → e ≡ holdsEmpty asked → e ≡ false
+      → WroteLines o b at (chainLinesOf row n asked U i k lines) q
   unfolding chainLinesOf
   chain-wrote v w e t = rw (sym e ∙ t) (lines-more w v)
 
-  pub chain-wrote-empty : {d : List ℕ} {r : ℕ} → WroteLines b d q (oneLine 2 (lines + 6) (keyAlong line i n (asked .paths)) ∷ []) r
-      → WroteLines a b p (twoLine 9 (lines + 3) (lines + 5) (keyAlong line i n U) ∷ []) q
-      → WroteLines o a at (meetingLinesOf line n asked U i k lines) p → {e : Bool} → e ≡ holdsEmpty asked → e ≡ true
-      → WroteLines o d at (chainLinesOf line n asked U i k lines) r
+  pub chain-wrote-empty : {d : List ℕ} {r : ℕ} → WroteLines b d q (oneLine 2 (lines + 6) (keyAlong row i n (asked .paths)) ∷ []) r
+      → WroteLines a b p (twoLine 9 (lines + 3) (lines + 5) (keyAlong row i n U) ∷ []) q
+      → WroteLines o a at (meetingLinesOf row n asked U i k lines) p → {e : Bool} → e ≡ holdsEmpty asked → e ≡ true
+      → WroteLines o d at (chainLinesOf row n asked U i k lines) r
   unfolding chainLinesOf
   chain-wrote-empty u v w e t = rw (sym e ∙ t) (lines-more w (lines-more v u))
 
-pub end-wrote : {o a b : List ℕ} {at p q : ℕ} (line : List ℕ) (n : ℕ) (asked : Key) (i lines : ℕ)
-    → WroteLines a b p (oneLine 3 (lines + 3) (keyAlong line i n (asked .paths)) ∷ []) q
-    → WroteLines o a at (oneLine 4 (lines + 2) (keyAlong line i n (between n (length line) line ∷ [])) ∷ []) p
-    → WroteLines o b at (endLinesOf line n asked i lines) q
+pub end-wrote : {o a b : List ℕ} {at p q : ℕ} (row : List ℕ) (n : ℕ) (asked : Key) (i lines : ℕ)
+    → WroteLines a b p (oneLine 3 (lines + 3) (keyAlong row i n (asked .paths)) ∷ []) q
+    → WroteLines o a at (oneLine 4 (lines + 2) (keyAlong row i n (between n (length row) row ∷ [])) ∷ []) p
+    → WroteLines o b at (endLinesOf row n asked i lines) q
 unfolding endLinesOf
-end-wrote line n asked i lines v w = lines-more w v
+end-wrote row n asked i lines v w = lines-more w v
 
-pub empty-wrote : {o a b c d : List ℕ} {at p q r t : ℕ} (line : List ℕ) (n : ℕ) (asked s : Key) (i k lines : ℕ)
-    → WroteLines c d r (oneLine 3 (lines + 5) (keyAlong line i n (asked .paths)) ∷ []) t
-    → WroteLines b c q (oneLine 8 (lines + 4) (keyAlong line i n (withEmpty (between n (length line) line))) ∷ []) r
-    → WroteLines a b p (oneLine 2 (lines + 3) (keyAlong line i k (withEmpty (between k (length line) line))) ∷ []) q
-    → WroteLines o a at (oneLine 3 (lines + 2) (keyAlong line i k (insert [] (s .paths))) ∷ []) p
-    → WroteLines o d at (emptyLinesOf line n asked s i k lines) t
+pub empty-wrote : {o a b c d : List ℕ} {at p q r t : ℕ} (row : List ℕ) (n : ℕ) (asked s : Key) (i k lines : ℕ)
+    → WroteLines c d r (oneLine 3 (lines + 5) (keyAlong row i n (asked .paths)) ∷ []) t
+    → WroteLines b c q (oneLine 8 (lines + 4) (keyAlong row i n (withEmpty (between n (length row) row))) ∷ []) r
+    → WroteLines a b p (oneLine 2 (lines + 3) (keyAlong row i k (withEmpty (between k (length row) row))) ∷ []) q
+    → WroteLines o a at (oneLine 3 (lines + 2) (keyAlong row i k (insert [] (s .paths))) ∷ []) p
+    → WroteLines o d at (emptyLinesOf row n asked s i k lines) t
 unfolding emptyLinesOf
-empty-wrote line n asked s i k lines x u v w = lines-more w (lines-more v (lines-more u x))
+empty-wrote row n asked s i k lines x u v w = lines-more w (lines-more v (lines-more u x))
 
 -- ---- U
 
@@ -153,7 +153,7 @@ module _ {buffer asked cited set : List ℕ} {many : ℕ} (ka : KeyBody asked) (
       }
 
 -- U in the local buffer is the set that the lines are written with
-pub chain-united : {o d buffer end : List ℕ} {at t count used : ℕ} (line : List ℕ) (n : ℕ) (asked : Key) {U : List (List ℕ)} (i k lines : ℕ)
-    → SmallSet buffer end count used U → WroteLines o d at (chainLinesOf line n asked (pathsOf count (take used end)) i k lines) t
-    → WroteLines o d at (chainLinesOf line n asked U i k lines) t
-chain-united line n asked i k lines u w = lines-is (ap (λ (x : List (List ℕ)). chainLinesOf line n asked x i k lines) (u .holds .are)) w
+pub chain-united : {o d buffer end : List ℕ} {at t count used : ℕ} (row : List ℕ) (n : ℕ) (asked : Key) {U : List (List ℕ)} (i k lines : ℕ)
+    → SmallSet buffer end count used U → WroteLines o d at (chainLinesOf row n asked (pathsOf count (take used end)) i k lines) t
+    → WroteLines o d at (chainLinesOf row n asked U i k lines) t
+chain-united row n asked i k lines u w = lines-is (ap (λ (x : List (List ℕ)). chainLinesOf row n asked x i k lines) (u .holds .are)) w

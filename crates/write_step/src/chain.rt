@@ -1,4 +1,4 @@
-// A step's first lines, and the lines of a step from a chain node: ARGUMENT, section 5, "k ≤ n". `line` is the asked line of the step's
+// A step's first lines, and the lines of a step from a chain node: ARGUMENT, section 5, "k ≤ n". `row` is the asked row of the step's
 // spot.
 use crate::single::Place;
 use crate::single::Span;
@@ -28,10 +28,10 @@ use write_set::unite_beyond;
 ghost use Prim.Native.Nat.{_+_, _-_, _≤_};
 ghost use lib.ListN.{length};
 ghost use Rattle.meaning.specs.Records.{keyIn};
-ghost use Rattle.read_record.specs.Parts.{pathsOf};
+ghost use Rattle.read_record.specs.BodyParts.{pathsOf};
 ghost use Rattle.write_step.specs.Fits.{KeyBody};
 ghost use Rattle.write_step.specs.Lines.{WroteLines};
-ghost use Rattle.write_step.specs.Parts.{SmallSet, UnitedBytes};
+ghost use Rattle.write_step.specs.RowKeys.{SmallSet, UnitedBytes};
 ghost use Rattle.write_step.specs.StepFits.{OpeningFits, StepFits};
 ghost use Rattle.write_step.specs.StepLines.{openingOf, unitedBy, meetingLinesOf, chainLinesOf};
 
@@ -39,25 +39,25 @@ ghost use Rattle.write_step.specs.StepLines.{openingOf, unitedBy, meetin
 pub fn write_opening(
     out: &mut [u8],
     place: Place,
-    line: &[u8],
+    row: &[u8],
     cited: &[u8],
     key: usize,
     node: usize,
     spot: usize,
 ) -> usize
-    requires { ⌜ OpeningFits (now out) (place .at) (place .lines) (now line) (now cited) node spot ⌝ }
-    ensures { λ r. ⌜ WroteLines (now (out .entry)) (now (out .exit)) (place .at) (openingOf (now (line .entry)) (keyIn (now (cited .entry))) key node spot (place .lines)) r ⌝ }
+    requires { ⌜ OpeningFits (now out) (place .at) (place .lines) (now row) (now cited) node spot ⌝ }
+    ensures { λ r. ⌜ WroteLines (now (out .entry)) (now (out .exit)) (place .at) (openingOf (now (row .entry)) (keyIn (now (cited .entry))) key node spot (place .lines)) r ⌝ }
 {
     let at = place.at;
     let lines = place.lines;
     let aim = target(cited);
     let second = write_of_key(out, at, CITATION, key, context(cited), aim, cited);
-    let third = write_of_key(out, second, CONTEXT_PATH, lines, &line[..node], aim, cited);
+    let third = write_of_key(out, second, CONTEXT_PATH, lines, &row[..node], aim, cited);
     let span = Span {
         from: node,
         to: spot,
     };
-    write_along(out, third, TARGET_PATH, lines + 1, line, span, cited)
+    write_along(out, third, TARGET_PATH, lines + 1, row, span, cited)
 }
 
 // "U = S united with S'"; "Without e, U = S"
@@ -82,46 +82,46 @@ fn united_set(buffer: &mut [u8], asked: &[u8], cited: &[u8], front: usize) -> Se
 fn write_meeting(
     out: &mut [u8],
     place: Place,
-    line: &[u8],
+    row: &[u8],
     step: Step,
     asked: &[u8],
     many: usize,
     united: &[u8],
 ) -> usize
-    requires { ⌜ StepFits (now out) (place .at) 3 (place .lines) (now line) (step .chain) (step .node) (step .spot) (now asked) × (step .spot ≤ step .chain) × UnitedBytes many (now united) ⌝ }
-    ensures { λ r. ⌜ WroteLines (now (out .entry)) (now (out .exit)) (place .at) (meetingLinesOf (now (line .entry)) (step .chain) (keyIn (now (asked .entry))) (pathsOf many (now (united .entry))) (step .node) (step .spot) (place .lines)) r ⌝ }
+    requires { ⌜ StepFits (now out) (place .at) 3 (place .lines) (now row) (step .chain) (step .node) (step .spot) (now asked) × (step .spot ≤ step .chain) × UnitedBytes many (now united) ⌝ }
+    ensures { λ r. ⌜ WroteLines (now (out .entry)) (now (out .exit)) (place .at) (meetingLinesOf (now (row .entry)) (step .chain) (keyIn (now (asked .entry))) (pathsOf many (now (united .entry))) (step .node) (step .spot) (place .lines)) r ⌝ }
 {
     let lines = place.lines;
-    let second = write_fronted(out, place.at, lines + 2, line, step, many, united);
+    let second = write_fronted(out, place.at, lines + 2, row, step, many, united);
     let span = Span {
         from: step.spot,
         to: step.chain,
     };
-    let third = write_along(out, second, CONTEXT_TARGET, lines - 1, line, span, asked);
+    let third = write_along(out, second, CONTEXT_TARGET, lines - 1, row, span, asked);
     let first = lines + 4;
     let head = Head {
         rule: SUPERKEY,
         first: first,
         second: NO_NUMBER,
     };
-    write_part(out, third, head, line, span, many, united)
+    write_part(out, third, head, row, span, many, united)
 }
 
 // "rule 9 of the two: (A', (norm (C++T)[i..n], U)) · with e in S, rule 2: K i"
 fn write_chain_lines(
     out: &mut [u8],
     place: Place,
-    line: &[u8],
+    row: &[u8],
     step: Step,
     asked: &[u8],
     many: usize,
     united: &[u8],
 ) -> usize
-    requires { ⌜ StepFits (now out) (place .at) 5 (place .lines) (now line) (step .chain) (step .node) (step .spot) (now asked) × (step .spot ≤ step .chain) × UnitedBytes many (now united) ⌝ }
-    ensures { λ r. ⌜ WroteLines (now (out .entry)) (now (out .exit)) (place .at) (chainLinesOf (now (line .entry)) (step .chain) (keyIn (now (asked .entry))) (pathsOf many (now (united .entry))) (step .node) (step .spot) (place .lines)) r ⌝ }
+    requires { ⌜ StepFits (now out) (place .at) 5 (place .lines) (now row) (step .chain) (step .node) (step .spot) (now asked) × (step .spot ≤ step .chain) × UnitedBytes many (now united) ⌝ }
+    ensures { λ r. ⌜ WroteLines (now (out .entry)) (now (out .exit)) (place .at) (chainLinesOf (now (row .entry)) (step .chain) (keyIn (now (asked .entry))) (pathsOf many (now (united .entry))) (step .node) (step .spot) (place .lines)) r ⌝ }
 {
     let lines = place.lines;
-    let next = write_meeting(out, place, line, step, asked, many, united);
+    let next = write_meeting(out, place, row, step, asked, many, united);
     let first = lines + 3;
     let second = lines + 5;
     let head = Head {
@@ -133,9 +133,9 @@ fn write_chain_lines(
         from: step.node,
         to: step.chain,
     };
-    let last = write_part(out, next, head, line, span, many, united);
+    let last = write_part(out, next, head, row, span, many, united);
     if holds_empty(asked) {
-        return write_along(out, last, PREFIX_EPSILON, lines + 6, line, span, asked);
+        return write_along(out, last, PREFIX_EPSILON, lines + 6, row, span, asked);
     }
     last
 }
@@ -144,17 +144,17 @@ fn write_chain_lines(
 pub fn write_chain(
     out: &mut [u8],
     place: Place,
-    line: &[u8],
+    row: &[u8],
     step: Step,
     asked: &[u8],
     cited: &[u8],
 ) -> usize
-    requires { ⌜ StepFits (now out) (place .at) 5 (place .lines) (now line) (step .chain) (step .node) (step .spot) (now asked) × (step .spot ≤ step .chain) × KeyBody (now cited) ⌝ }
-    ensures { λ r. ⌜ WroteLines (now (out .entry)) (now (out .exit)) (place .at) (chainLinesOf (now (line .entry)) (step .chain) (keyIn (now (asked .entry))) (unitedBy (keyIn (now (asked .entry))) (keyIn (now (cited .entry))) (step .chain - step .spot)) (step .node) (step .spot) (place .lines)) r ⌝ }
+    requires { ⌜ StepFits (now out) (place .at) 5 (place .lines) (now row) (step .chain) (step .node) (step .spot) (now asked) × (step .spot ≤ step .chain) × KeyBody (now cited) ⌝ }
+    ensures { λ r. ⌜ WroteLines (now (out .entry)) (now (out .exit)) (place .at) (chainLinesOf (now (row .entry)) (step .chain) (keyIn (now (asked .entry))) (unitedBy (keyIn (now (asked .entry))) (keyIn (now (cited .entry))) (step .chain - step .spot)) (step .node) (step .spot) (place .lines)) r ⌝ }
 {
     let mut buffer = [0u8; UNITED_BYTES];
     let set = united_set(&mut buffer, asked, cited, step.chain - step.spot);
     let many = set.count;
     let used = set.used;
-    write_chain_lines(out, place, line, step, asked, many, &buffer[..used])
+    write_chain_lines(out, place, row, step, asked, many, &buffer[..used])
 }

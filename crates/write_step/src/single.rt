@@ -1,4 +1,4 @@
-// One proof line with a set that is made for it. `line` is a line of the asked key (ARGUMENT, section 4).
+// One proof line with a set that is made for it. `row` is a row of the asked key (ARGUMENT, section 4).
 use read_record::keys::count;
 use read_record::keys::paths;
 use read_record::limits::NO_NUMBER;
@@ -18,15 +18,15 @@ ghost use Prim.Native.Nat.{_<_};
 ghost use lib.ListN.{length};
 ghost use Rattle.meaning.specs.Rules.{withEmpty};
 ghost use Rattle.meaning.specs.Records.{keyIn};
-ghost use Rattle.read_record.specs.Parts.{pathsOf};
+ghost use Rattle.read_record.specs.BodyParts.{pathsOf};
 ghost use Rattle.write_set.specs.Fronts.{inFront};
 ghost use Rattle.theory_derive.specs.Sets.{insert};
 ghost use Rattle.theory_derive.specs.Written.{keyOf, twoLine, oneLine};
 ghost use Rattle.write_step.specs.Fits.{KeyBody, OfKeyFits};
 ghost use Rattle.write_step.specs.Lines.{WroteLines};
-ghost use Rattle.write_step.specs.Parts.{between, keyAlong, PartRoom, FrontRoom, SetFits, UnitedBytes};
+ghost use Rattle.write_step.specs.RowKeys.{between, keyAlong, PartRoom, FrontRoom, SetFits, UnitedBytes};
 
-// The part of the asked line from one symbol up to another: a line's target; its context stands before.
+// The part of the asked row from one symbol up to another: a line's target; its context stands before.
 pub struct Span {
     pub from: usize,
     pub to: usize,
@@ -67,22 +67,22 @@ pub fn write_of_key(
     write_line(out, at, head, context, target, many, paths(body))
 }
 
-// A line whose context and target are read off the asked line: up to `from`, and from there up to `to`.
+// A line whose context and target are read off the asked row: up to `from`, and from there up to `to`.
 pub fn write_part(
     out: &mut [u8],
     at: usize,
     head: Head,
-    line: &[u8],
+    row: &[u8],
     span: Span,
     many: usize,
     set: &[u8],
 ) -> usize
-    requires { ⌜ (head .rule < 256) × PartRoom (now out) at (now line) (span .from) (span .to) × SetFits many (now set) ⌝ }
-    ensures { λ r. ⌜ WroteLines (now (out .entry)) (now (out .exit)) at (twoLine (head .rule) (head .first) (head .second) (keyAlong (now (line .entry)) (span .from) (span .to) (pathsOf many (now (set .entry)))) ∷ []) r ⌝ }
+    requires { ⌜ (head .rule < 256) × PartRoom (now out) at (now row) (span .from) (span .to) × SetFits many (now set) ⌝ }
+    ensures { λ r. ⌜ WroteLines (now (out .entry)) (now (out .exit)) at (twoLine (head .rule) (head .first) (head .second) (keyAlong (now (row .entry)) (span .from) (span .to) (pathsOf many (now (set .entry)))) ∷ []) r ⌝ }
 {
     let from = span.from;
     let to = span.to;
-    write_line(out, at, head, &line[..from], &line[from..to], many, set)
+    write_line(out, at, head, &row[..from], &row[from..to], many, set)
 }
 
 // Such a line with the key paths of a key.
@@ -91,12 +91,12 @@ pub fn write_along(
     at: usize,
     rule: usize,
     first: usize,
-    line: &[u8],
+    row: &[u8],
     span: Span,
     body: &[u8],
 ) -> usize
-    requires { ⌜ (rule < 256) × PartRoom (now out) at (now line) (span .from) (span .to) × KeyBody (now body) ⌝ }
-    ensures { λ r. ⌜ WroteLines (now (out .entry)) (now (out .exit)) at (oneLine rule first (keyAlong (now (line .entry)) (span .from) (span .to) (keyIn (now (body .entry)) .paths)) ∷ []) r ⌝ }
+    requires { ⌜ (rule < 256) × PartRoom (now out) at (now row) (span .from) (span .to) × KeyBody (now body) ⌝ }
+    ensures { λ r. ⌜ WroteLines (now (out .entry)) (now (out .exit)) at (oneLine rule first (keyAlong (now (row .entry)) (span .from) (span .to) (keyIn (now (body .entry)) .paths)) ∷ []) r ⌝ }
 {
     let many = count(body);
     let head = Head {
@@ -104,48 +104,48 @@ pub fn write_along(
         first: first,
         second: NO_NUMBER,
     };
-    write_part(out, at, head, line, span, many, paths(body))
+    write_part(out, at, head, row, span, many, paths(body))
 }
 
-// "rule 4": the rest of the line is the one key path.
+// "rule 4": the rest of the row is the one key path.
 pub fn write_one(
     out: &mut [u8],
     at: usize,
     first: usize,
-    line: &[u8],
+    row: &[u8],
     from: usize,
     to: usize,
 ) -> usize
-    requires { ⌜ PartRoom (now out) at (now line) from to ⌝ }
-    ensures { λ r. ⌜ WroteLines (now (out .entry)) (now (out .exit)) at (oneLine 4 first (keyAlong (now (line .entry)) from to (between to (length (now (line .entry))) (now (line .entry)) ∷ [])) ∷ []) r ⌝ }
+    requires { ⌜ PartRoom (now out) at (now row) from to ⌝ }
+    ensures { λ r. ⌜ WroteLines (now (out .entry)) (now (out .exit)) at (oneLine 4 first (keyAlong (now (row .entry)) from to (between to (length (now (row .entry))) (now (row .entry)) ∷ [])) ∷ []) r ⌝ }
 {
     let mut one = [0u8; 32];
-    let used = put_path(&mut one, 0, &line[to..]);
+    let used = put_path(&mut one, 0, &row[to..]);
     let head = Head {
         rule: SUBNODES,
         first: first,
         second: NO_NUMBER,
     };
     let span = Span { from: from, to: to };
-    write_part(out, at, head, line, span, 1, &one[..used])
+    write_part(out, at, head, row, span, 1, &one[..used])
 }
 
-// A line with the set {empty, the rest of the line}.
+// A line with the set {empty, the rest of the row}.
 pub fn write_pair(
     out: &mut [u8],
     at: usize,
     rule: usize,
     first: usize,
-    line: &[u8],
+    row: &[u8],
     from: usize,
     to: usize,
 ) -> usize
-    requires { ⌜ (rule < 256) × PartRoom (now out) at (now line) from to ⌝ }
-    ensures { λ r. ⌜ WroteLines (now (out .entry)) (now (out .exit)) at (oneLine rule first (keyAlong (now (line .entry)) from to (withEmpty (between to (length (now (line .entry))) (now (line .entry))))) ∷ []) r ⌝ }
+    requires { ⌜ (rule < 256) × PartRoom (now out) at (now row) from to ⌝ }
+    ensures { λ r. ⌜ WroteLines (now (out .entry)) (now (out .exit)) at (oneLine rule first (keyAlong (now (row .entry)) from to (withEmpty (between to (length (now (row .entry))) (now (row .entry))))) ∷ []) r ⌝ }
 {
     let mut buffer = [0u8; UNITED_BYTES];
     let behind = put_number(&mut buffer, 0, 0);
-    let set = insert_path(&mut buffer, 1, behind, &line[to..]);
+    let set = insert_path(&mut buffer, 1, behind, &row[to..]);
     let many = set.count;
     let used = set.used;
     let head = Head {
@@ -154,7 +154,7 @@ pub fn write_pair(
         second: NO_NUMBER,
     };
     let span = Span { from: from, to: to };
-    write_part(out, at, head, line, span, many, &buffer[..used])
+    write_part(out, at, head, row, span, many, &buffer[..used])
 }
 
 // "rule 3: S_s with e"
@@ -162,13 +162,13 @@ pub fn write_with_empty(
     out: &mut [u8],
     at: usize,
     first: usize,
-    line: &[u8],
+    row: &[u8],
     from: usize,
     to: usize,
     body: &[u8],
 ) -> usize
-    requires { ⌜ PartRoom (now out) at (now line) from to × KeyBody (now body) ⌝ }
-    ensures { λ r. ⌜ WroteLines (now (out .entry)) (now (out .exit)) at (oneLine 3 first (keyAlong (now (line .entry)) from to (insert [] (keyIn (now (body .entry)) .paths))) ∷ []) r ⌝ }
+    requires { ⌜ PartRoom (now out) at (now row) from to × KeyBody (now body) ⌝ }
+    ensures { λ r. ⌜ WroteLines (now (out .entry)) (now (out .exit)) at (oneLine 3 first (keyAlong (now (row .entry)) from to (insert [] (keyIn (now (body .entry)) .paths))) ∷ []) r ⌝ }
 {
     let mut buffer = [0u8; UNITED_BYTES];
     let bytes = paths(body);
@@ -182,7 +182,7 @@ pub fn write_with_empty(
         second: NO_NUMBER,
     };
     let span = Span { from: from, to: to };
-    write_part(out, at, head, line, span, many, &buffer[..used])
+    write_part(out, at, head, row, span, many, &buffer[..used])
 }
 
 // "rule 3: (A', (norm (C++T)[i..k], F.U))": F, the line from the spot up to t, in front of each key path.
@@ -190,18 +190,18 @@ pub fn write_fronted(
     out: &mut [u8],
     at: usize,
     first: usize,
-    line: &[u8],
+    row: &[u8],
     step: Step,
     many: usize,
     set: &[u8],
 ) -> usize
-    requires { ⌜ PartRoom (now out) at (now line) (step .node) (step .spot) × FrontRoom (now line) (step .spot) (step .chain) × UnitedBytes many (now set) ⌝ }
-    ensures { λ r. ⌜ WroteLines (now (out .entry)) (now (out .exit)) at (oneLine 3 first (keyAlong (now (line .entry)) (step .node) (step .spot) (inFront (between (step .spot) (step .chain) (now (line .entry))) (pathsOf many (now (set .entry))))) ∷ []) r ⌝ }
+    requires { ⌜ PartRoom (now out) at (now row) (step .node) (step .spot) × FrontRoom (now row) (step .spot) (step .chain) × UnitedBytes many (now set) ⌝ }
+    ensures { λ r. ⌜ WroteLines (now (out .entry)) (now (out .exit)) at (oneLine 3 first (keyAlong (now (row .entry)) (step .node) (step .spot) (inFront (between (step .spot) (step .chain) (now (row .entry))) (pathsOf many (now (set .entry))))) ∷ []) r ⌝ }
 {
     let mut buffer = [0u8; SET_BYTES];
     let spot = step.spot;
     let chain = step.chain;
-    let used = put_front(&mut buffer, &line[spot..chain], many, set);
+    let used = put_front(&mut buffer, &row[spot..chain], many, set);
     let head = Head {
         rule: SUPERKEY,
         first: first,
@@ -211,5 +211,5 @@ pub fn write_fronted(
         from: step.node,
         to: spot,
     };
-    write_part(out, at, head, line, span, many, &buffer[..used])
+    write_part(out, at, head, row, span, many, &buffer[..used])
 }

@@ -13,10 +13,10 @@ use Rattle.meaning.specs.Keys.{Key}
 use Rattle.meaning.specs.Records.{readKey, keyIn, isSome}
 use Rattle.meaning.specs.Pattern.{qOf, tOf}
 use Rattle.theory_paths.specs.Good.{GoodLabels, undeclared-class, undeclared-high, GoodKey, context-length, target-length, key-path-length, paths-within}
-use Rattle.theory_paths.specs.Lists.{getD-mem}
+use Rattle.theory_lists.specs.Lists.{getD-mem}
 use Rattle.read_record.specs.Classes.{classBy, Tabled, class-tabled}
-use Rattle.write_pattern.specs.Sketch.{Asked}
-use Rattle.write_tree.specs.Written.{TreeWritten}
+use Rattle.write_pattern.specs.Sketch.{Sketchable}
+use Rattle.write_tree.specs.Written.{TreeAtFront}
 
 module _ {labels : List Label} {classes : List ℕ} (tabled : Tabled labels classes) (good : GoodLabels labels) (long : length classes ≡ 256) where
   -- a number that no byte is, is no declared label: an element for both
@@ -37,13 +37,13 @@ module _ {labels : List Label} {classes : List ℕ} (tabled : Tabled labels clas
   class-everywhere = fun-ext class-each
 
   -- what is written by the table is the tree of the labels
-  pub tree-of-labels : {asked : Key} {u : ℕ} {before after : List ℕ} {used : ℕ} → TreeWritten (classBy classes) asked u before after used
-      → TreeWritten (classOf labels) asked u before after used
-  tree-of-labels {asked} {u} {before} {after} {used} w = subst (λ (κ : ℕ → Class). TreeWritten κ asked u before after used) class-everywhere w
+  pub tree-of-labels : {asked : Key} {u : ℕ} {before after : List ℕ} {used : ℕ} → TreeAtFront (classBy classes) asked u before after used
+      → TreeAtFront (classOf labels) asked u before after used
+  tree-of-labels {asked} {u} {before} {after} {used} w = subst (λ (κ : ℕ → Class). TreeAtFront κ asked u before after used) class-everywhere w
 
 -- an accepted question is within the sizes
 pub asked-good : (labels : List Label) (body : List ℕ) (u : ℕ) → isSome (readKey body) ≡ true → GoodKey labels inProfile (keyIn body)
-    → qOf (keyIn body) ≤ u → u < tOf (keyIn body) → Asked body u
+    → qOf (keyIn body) ≤ u → u < tOf (keyIn body) → Sketchable body u
 asked-good labels body u e g q t =
     record {
       sizes =

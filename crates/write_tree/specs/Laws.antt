@@ -19,7 +19,7 @@ use Rattle.write_pattern.specs.Entries.{numbers-more}
 use Rattle.write_tree.specs.Standing.{flatten-append}
 use Rattle.write_tree.specs.Front.{Front, front-none, front-more, front-length, front-same}
 use Rattle.write_tree.specs.Written.{parentOf, valueOf, nodeFrom, copyBytes, Copying, Copied}
-use Rattle.theory_paths.specs.Lists.{map-append, numbers-length}
+use Rattle.theory_lists.specs.Lists.{map-append, numbers-length}
 
 -- the parent
 pub parent-root : (above cut shift x : ℕ) → x ≡ 0 → 65535 ≡ parentOf above cut shift x

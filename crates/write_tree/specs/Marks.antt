@@ -10,8 +10,8 @@ use borrow.Author.Tests.{eq-eqb, ne-eqb, le-leb, lt-leb}
 use Rattle.meaning.specs.Lists.{any, isEmpty}
 use Rattle.meaning.specs.Keys.{Key}
 use Rattle.meaning.specs.Pattern.{tOf, ends, marked}
-use Rattle.theory_paths.specs.Bools.{false-of}
-use Rattle.theory_counter.specs.Lines.{longs, ends-after}
+use Rattle.theory_lists.specs.Bools.{false-of}
+use Rattle.theory_pattern.specs.Branches.{longs, ends-after}
 use Rattle.theory_counter.specs.PatternLaws.{longs-of}
 
 no-end : (t n x : ℕ) (S : List (List ℕ)) → longs S → x < n → any (eqb x) (ends t n S) ≡ false

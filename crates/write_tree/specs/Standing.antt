@@ -12,14 +12,14 @@ use Rattle.meaning.specs.Trees.{Node, noNode}
 use Rattle.meaning.specs.Keys.{Key}
 use Rattle.meaning.specs.Pattern.{Dressed, drawn, run, branches, patternNodes, marked, placeOf, widths, filler, dressedNode, dressed}
 use Rattle.theory_counter.specs.Places.{bit}
-use Rattle.theory_counter.specs.Numbered.{Numbered, next, Is, numbered-left, numbered-right}
-use Rattle.theory_counter.specs.Lines.{total, last}
+use Rattle.theory_pattern.specs.Numbered.{Numbered, next, Is, numbered-left, numbered-right}
+use Rattle.theory_pattern.specs.Branches.{total, last}
 use Rattle.theory_counter.specs.Dressing.{place-step}
 use Rattle.write_pattern.specs.Sketch.{Sketch, dressedAs, addTo, drawRun, hang, drawBranches, nothing}
 use Rattle.write_pattern.specs.Entries.{numbers-more}
 use Rattle.write_tree.specs.Marks.{MarksOf, BranchMarks}
-use Rattle.theory_paths.specs.Lists.{map-append}
-use Rattle.theory_derive.specs.Numbers.{run-length}
+use Rattle.theory_lists.specs.Lists.{map-append}
+use Rattle.theory_pattern.specs.Numbers.{run-length}
 
 pub flatten-append : {A : Type 0} (xs ys : List (List A)) → flatten (xs ++ ys) ≡ flatten xs ++ flatten ys
 unfolding flatten

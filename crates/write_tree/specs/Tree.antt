@@ -17,14 +17,14 @@ use Rattle.theory_counter.specs.Flattened.{map-numbers-at}
 use Rattle.theory_counter.specs.PatternLaws.{pattern-length}
 use Rattle.theory_counter.specs.WrittenLaws.{all-nodes}
 use Rattle.write_pattern.specs.declared.Drawing.{Drawing}
-use Rattle.write_pattern.specs.Sketch.{Sketch, entryAt, sketch, Shown, Asked, drawTrunk, drawBelow}
+use Rattle.write_pattern.specs.Sketch.{Sketch, entryAt, sketch, Shown, Sketchable, drawTrunk, drawBelow}
 use Rattle.write_pattern.specs.Entries.{map-agree, sketch-length}
 use Rattle.write_tree.specs.Standing.{flatten-append}
 use Rattle.write_tree.specs.Whole.{IsDrawn, whole-drawn, trunk-long, root-unmarked}
 use Rattle.write_tree.specs.Front.{Front, front-more, front-length, front-same}
-use Rattle.write_tree.specs.Written.{parentOf, valueOf, nodeFrom, copyBytes, Copying, TreeWritten}
+use Rattle.write_tree.specs.Written.{parentOf, valueOf, nodeFrom, copyBytes, Copying, TreeAtFront}
 use Rattle.write_tree.specs.Laws.{nodes-more, copy-length, copying-rest}
-use Rattle.theory_paths.specs.Lists.{map-append, numbers-append}
+use Rattle.theory_lists.specs.Lists.{map-append, numbers-append}
 
 module _ (κ : ℕ → Class) (asked : Key) (d : Drawing) (drew : IsDrawn κ asked (sketch d)) (root : marked asked 0 ≡ false) where
   entry-is : (x : ℕ) → x < d .size → entryAt d x ≡ getD (record { parent = 0; label = rootLabel; mark = false } ∷ drew .rest) x (noDressed κ asked)
@@ -68,7 +68,7 @@ module _ (κ : ℕ → Class) (asked : Key) (d : Drawing) (drew : IsDrawn κ ask
       (ap flatten (map-append (nodeBytes 5) (map (writtenNode κ asked cut 0) (numbers (d .size) 0)) (map (writtenNode κ asked cut (d .size - cut)) (numbers (d .size - cut) cut)))
       ∙ flatten-append (map (nodeBytes 5) (map (writtenNode κ asked cut 0) (numbers (d .size) 0))) (map (nodeBytes 5) (map (writtenNode κ asked cut (d .size - cut)) (numbers (d .size - cut) cut))))
 
-module _ (κ : ℕ → Class) {body : List ℕ} {u : ℕ} (asked : Asked body u) {trunk d : Drawing} (h : Shown trunk (drawTrunk κ (keyIn body) u) 34)
+module _ (κ : ℕ → Class) {body : List ℕ} {u : ℕ} (asked : Sketchable body u) {trunk d : Drawing} (h : Shown trunk (drawTrunk κ (keyIn body) u) 34)
     (k : Shown d (drawBelow κ (keyIn body) u (sketch trunk)) 128) where
   drawn : IsDrawn κ (keyIn body) (sketch d)
   drawn =
@@ -139,7 +139,7 @@ module _ (κ : ℕ → Class) {body : List ℕ} {u : ℕ} (asked : Asked body u)
     pub tree-written : {zs : List ℕ}
         → Front (take (length (putMid (11 * trunk .size) (length one - 11 * trunk .size) one ys) - 11 * d .size) (drop (11 * d .size) (putMid (11 * trunk .size) (length one - 11 * trunk .size) one ys)))
         zs (copyBytes κ d (trunk .size) (d .size - trunk .size) (trunk .size) (d .size - trunk .size))
-        → TreeWritten κ (keyIn body) u before
+        → TreeAtFront κ (keyIn body) u before
         (putMid (11 * d .size) (length (putMid (11 * trunk .size) (length one - 11 * trunk .size) one ys) - 11 * d .size) (putMid (11 * trunk .size) (length one - 11 * trunk .size) one ys) zs)
         (11 * d .size + 11 * (d .size - trunk .size))
     unfolding two

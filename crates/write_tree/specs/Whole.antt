@@ -11,13 +11,13 @@ use Rattle.meaning.specs.Lists.{any, isEmpty}
 use Rattle.meaning.specs.Paths.{Class}
 use Rattle.meaning.specs.Keys.{Key}
 use Rattle.meaning.specs.Pattern.{Dressed, run, qOf, tOf, patternNodes, marked, placeOf, dressedNode, dressedNodes}
-use Rattle.theory_counter.specs.Numbered.{Numbered, Is, numbered-left, numbered-right}
-use Rattle.theory_counter.specs.Lines.{last, run-append, last-chain}
+use Rattle.theory_pattern.specs.Numbered.{Numbered, Is, numbered-left, numbered-right}
+use Rattle.theory_pattern.specs.Branches.{last, run-append, last-chain}
 use Rattle.theory_counter.specs.PatternLaws.{chain, twigs, chain-here, twigs-here, pattern-length}
 use Rattle.write_pattern.specs.Sketch.{Sketch, drawRun, drawBranches, drawTrunk, drawDown, drawTwigs, drawBelow}
 use Rattle.write_tree.specs.Marks.{MarksOf, unmarked-above, marks-trunk, marks-down, branch-marks}
 use Rattle.write_tree.specs.Standing.{firsts, Standing, standing-root, standing-run, standing-branches}
-use Rattle.theory_derive.specs.Numbers.{run-length}
+use Rattle.theory_pattern.specs.Numbers.{run-length}
 
 -- What is drawn is the dressed pattern, but for the root's parent, which has no number
 pub record IsDrawn (κ : ℕ → Class) (asked : Key) (s : Sketch) : Type 0 where

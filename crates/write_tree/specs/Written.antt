@@ -50,6 +50,6 @@ pub record Copied (κ : ℕ → Class) (d : Drawing) (cut shift from to : ℕ) (
   pub front : Front before after (copyBytes κ d cut shift from (x - from))
 
 -- "The answer reports bytes used, which is 11 times the nodes. Bytes after those used are unchanged."
-pub record TreeWritten (κ : ℕ → Class) (asked : Key) (u : ℕ) (before after : List ℕ) (bytes : ℕ) : Type 0 where
+pub record TreeAtFront (κ : ℕ → Class) (asked : Key) (u : ℕ) (before after : List ℕ) (bytes : ℕ) : Type 0 where
   pub is : after ≡ writtenTree κ asked u ++ drop bytes before
   pub used : bytes ≡ length (writtenTree κ asked u)

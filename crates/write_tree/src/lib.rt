@@ -12,9 +12,9 @@ ghost use Prim.Native.Nat.{_+_, _-_, _*_, _/_, _%_, _<_, _≤_};
 ghost use lib.ListN.{length};
 ghost use Rattle.meaning.specs.Records.{keyIn, nodeBytes};
 ghost use Rattle.read_record.specs.Classes.{classBy};
-ghost use Rattle.write_pattern.specs.Sketch.{Sized, Asked, entryAt};
+ghost use Rattle.write_pattern.specs.Sketch.{Sized, Sketchable, entryAt};
 ghost use Rattle.write_tree.specs.Front.{Front};
-ghost use Rattle.write_tree.specs.Written.{parentOf, valueOf, nodeFrom, copyBytes, Copying, TreeWritten};
+ghost use Rattle.write_tree.specs.Written.{parentOf, valueOf, nodeFrom, copyBytes, Copying, TreeAtFront};
 
 // "length of the whole record (two bytes, little-endian), kind (two bytes), body"; 11 bytes a node record, kind 5
 const NODE_LENGTH: u8 = 11;
@@ -132,8 +132,8 @@ fn write_copy(
 
 // "The tree is the pattern's nodes from root to u once; then all the others .. as a first copy, then as a second copy."
 pub fn write_tree(out: &mut [u8], asked: &[u8], classes: &[u8; 256], u: usize) -> usize
-    requires { ⌜ Asked (now asked) u × (65536 ≤ length (now out)) ⌝ }
-    ensures { λ r. ⌜ TreeWritten (classBy (now (classes .entry))) (keyIn (now (asked .entry))) u (now (out .entry)) (now (out .exit)) r ⌝ }
+    requires { ⌜ Sketchable (now asked) u × (65536 ≤ length (now out)) ⌝ }
+    ensures { λ r. ⌜ TreeAtFront (classBy (now (classes .entry))) (keyIn (now (asked .entry))) u (now (out .entry)) (now (out .exit)) r ⌝ }
 {
     let trunk = draw_trunk(asked, classes, u);
     let cut = trunk.size;

@@ -1,4 +1,4 @@
-use Rattle.op_decide.specs.Found.{decide-short, decide-stops, decide-given, decide-size}
+use Rattle.op_decide.specs.Returns.{decide-short, decide-stops, decide-given, decide-size}
 use borrow.Author.Needs.{needs}
 use Rattle.op_decide.proofs.decide.Statement.{statement}
 use Rattle.op_decide.proofs.decide.Tie as tie

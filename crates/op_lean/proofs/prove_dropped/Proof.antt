@@ -1,4 +1,4 @@
-use Rattle.op_lean.specs.Found.{prove-short, prove-stops, found-accepted}
+use Rattle.op_lean.specs.Returns.{prove-short, prove-stops, found-accepted}
 use borrow.Author.Needs.{needs}
 use Rattle.op_lean.proofs.prove_dropped.Statement.{statement}
 use Rattle.op_lean.proofs.prove_dropped.Tie as tie

@@ -1,4 +1,4 @@
-use Rattle.op_lean.specs.Found.{reduce-short, reduce-stops, found-accepted}
+use Rattle.op_lean.specs.Returns.{reduce-short, reduce-stops, found-accepted}
 use borrow.Author.Needs.{needs}
 use Rattle.op_lean.proofs.reduce.Statement.{statement}
 use Rattle.op_lean.proofs.reduce.Tie as tie

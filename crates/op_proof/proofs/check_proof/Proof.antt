@@ -1,4 +1,4 @@
-use Rattle.op_proof.specs.Found.{proof-stops, proof-over, proof-given, proof-lines, proof-accepted}
+use Rattle.op_proof.specs.Returns.{proof-stops, proof-over, proof-given, proof-lines, proof-accepted}
 use borrow.Author.Needs.{needs}
 use Rattle.op_proof.proofs.check_proof.Statement.{statement}
 use Rattle.op_proof.proofs.check_proof.Tie as tie

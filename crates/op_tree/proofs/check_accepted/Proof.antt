@@ -1,5 +1,5 @@
-use Rattle.op_tree.specs.Asked.{padded-breaks, padded-accepts, padded-refused}
-use Rattle.op_tree.specs.Asked.{asked-tree, asked-key, counted-bodies, breaks-key, counterexample, keeps-all}
+use Rattle.op_tree.specs.BothAccepted.{padded-breaks, padded-accepts, padded-refused}
+use Rattle.op_tree.specs.BothAccepted.{asked-tree, asked-key, counted-bodies, breaks-key, counterexample, keeps-all}
 use Rattle.op_tree.specs.ProfileKeys.{key-found}
 use borrow.Author.Needs.{needs}
 use Rattle.op_tree.proofs.check_accepted.Statement.{statement}

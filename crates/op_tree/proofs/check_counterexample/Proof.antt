@@ -1,5 +1,5 @@
-use Rattle.op_tree.specs.Asked.{padded-refused}
-use Rattle.op_tree.specs.Asked.{checks-profile-stops}
+use Rattle.op_tree.specs.BothAccepted.{padded-refused}
+use Rattle.op_tree.specs.BothAccepted.{checks-profile-stops}
 use Rattle.op_accept.specs.Taken.{tables-of, taken-given}
 use borrow.Author.Needs.{needs}
 use Rattle.op_tree.proofs.check_counterexample.Statement.{statement}

@@ -1,5 +1,5 @@
-use Rattle.op_tree.specs.Asked.{padded-refused}
-use Rattle.op_tree.specs.Asked.{asked-of, checks-both-stop}
+use Rattle.op_tree.specs.BothAccepted.{padded-refused}
+use Rattle.op_tree.specs.BothAccepted.{both-accepted, checks-both-stop}
 use borrow.Author.Needs.{needs}
 use Rattle.op_tree.proofs.check_under.Statement.{statement}
 use Rattle.op_tree.proofs.check_under.Tie as tie
@@ -22,7 +22,7 @@ enum-told c = search needs
 
 -- src/lib.rt:165:26
 check-accepted-requires : tie.Need-check-accepted-requires
-check-accepted-requires c κs = (search (asked-of), search needs)
+check-accepted-requires c κs = (search (both-accepted), search needs)
 
 -- src/lib.rt:150:1
 returns : tie.Need-returns

@@ -1,5 +1,5 @@
-use Rattle.op_tree.specs.Asked.{padded-none}
-use Rattle.op_tree.specs.Asked.{tests-profile-stops}
+use Rattle.op_tree.specs.BothAccepted.{padded-none}
+use Rattle.op_tree.specs.BothAccepted.{tests-profile-stops}
 use Rattle.op_accept.specs.Taken.{tables-of, taken-in}
 use borrow.Author.Needs.{needs}
 use Rattle.op_tree.proofs.keep.Statement.{statement}

@@ -1,5 +1,5 @@
-use Rattle.op_tree.specs.Asked.{padded-broken, padded-kept}
-use Rattle.op_tree.specs.Asked.{asked-tree, asked-key, tests-broken, tests-kept}
+use Rattle.op_tree.specs.BothAccepted.{padded-broken, padded-kept}
+use Rattle.op_tree.specs.BothAccepted.{asked-tree, asked-key, tests-broken, tests-kept}
 use borrow.Author.Needs.{needs}
 use Rattle.op_tree.proofs.keep_accepted.Statement.{statement}
 use Rattle.op_tree.proofs.keep_accepted.Tie as tie

@@ -1,5 +1,5 @@
-use Rattle.op_tree.specs.Asked.{padded-none}
-use Rattle.op_tree.specs.Asked.{asked-of, tests-both-stop}
+use Rattle.op_tree.specs.BothAccepted.{padded-none}
+use Rattle.op_tree.specs.BothAccepted.{both-accepted, tests-both-stop}
 use borrow.Author.Needs.{needs}
 use Rattle.op_tree.proofs.keep_under.Statement.{statement}
 use Rattle.op_tree.proofs.keep_under.Tie as tie
@@ -22,7 +22,7 @@ enum-told c = search needs
 
 -- src/lib.rt:71:26
 keep-accepted-requires : tie.Need-keep-accepted-requires
-keep-accepted-requires c κs = search (asked-of)
+keep-accepted-requires c κs = search (both-accepted)
 
 -- src/lib.rt:64:1
 returns : tie.Need-returns

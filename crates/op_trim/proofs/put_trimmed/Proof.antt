@@ -1,6 +1,6 @@
 use Rattle.write_bytes.specs.Wrote.{wrote-is}
 use Rattle.op_trim.specs.Marked.{end-low, few-lines}
-use Rattle.op_trim.specs.Found.{some-line, linked, writable, kept-is}
+use Rattle.op_trim.specs.Returns.{some-line, linked, writable, kept-is}
 use native.Mathlib.Omega.{arith}
 use borrow.Author.Needs.{needs}
 use Rattle.op_trim.proofs.put_trimmed.Statement.{statement}

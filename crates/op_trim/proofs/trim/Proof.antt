@@ -1,4 +1,4 @@
-use Rattle.op_trim.specs.Found.{trim-small, trim-refused, trim-proved, trim-filled}
+use Rattle.op_trim.specs.Returns.{trim-small, trim-refused, trim-proved, trim-filled}
 use borrow.Author.Needs.{needs}
 use Rattle.op_trim.proofs.trim.Statement.{statement}
 use Rattle.op_trim.proofs.trim.Tie as tie

@@ -9,20 +9,20 @@ overlap-requires : tie.Need-overlap-requires
 overlap-requires c κs = search needs
 
 -- src/lib.rt:277:18
-sub-append-is : tie.Need-sub-append-is
-sub-append-is c = search needs
+sub-is-both : tie.Need-sub-is-both
+sub-is-both c = search needs
 
 -- src/lib.rt:277:18
-part-append-is-start : tie.Need-part-append-is-start
-part-append-is-start c = search needs
+part-is-both-start : tie.Need-part-is-both-start
+part-is-both-start c = search needs
 
 -- src/lib.rt:277:18
-part-append-is-end : tie.Need-part-append-is-end
-part-append-is-end c = search needs
+part-is-both-end : tie.Need-part-is-both-end
+part-is-both-end c = search needs
 
 -- src/lib.rt:277:5
-append-is-requires : tie.Need-append-is-requires
-append-is-requires c κs = search needs
+is-both-requires : tie.Need-is-both-requires
+is-both-requires c κs = search needs
 
 -- src/lib.rt:272:1
 returns : tie.Need-returns
@@ -33,8 +33,8 @@ join-is-spec =
     tie.close
     (tie.spec
     overlap-requires
-    sub-append-is
-    part-append-is-start
-    part-append-is-end
-    append-is-requires
+    sub-is-both
+    part-is-both-start
+    part-is-both-end
+    is-both-requires
     returns)

@@ -1,7 +1,7 @@
 -- `step_landings::all_land` meets its contract. Assumes nothing.
 use Prim.Native.Nat.{_-_}
 use Rattle.meaning.specs.Records.{keyIn}
-use Rattle.theory_derive.specs.Spots.{lands}
+use Rattle.theory_pattern.specs.Spots.{lands}
 use Rattle.rule_tests.specs.Walks.{Round, round-start, round-holds, round-stop, round-next, round-done}
 use borrow.Author.Needs.{needs}
 use native.Mathlib.Omega.{arith}
@@ -9,10 +9,10 @@ use Rattle.step_landings.proofs.all_land.Statement.{statement}
 use Rattle.step_landings.proofs.all_land.Tie as tie
 
 abbrev Inv-loop : tie.InvT-loop
-Inv-loop asked lines key j k n rest₀ i₀ rest i = Round (lands (keyIn asked) j k) (keyIn key .paths) n i rest
+Inv-loop asked rows key j k n rest₀ i₀ rest i = Round (lands (keyIn asked) j k) (keyIn key .paths) n i rest
 
 abbrev μ-loop : tie.MeasureT-loop
-μ-loop asked lines key j k n rest₀ i₀ rest i = n - i
+μ-loop asked rows key j k n rest₀ i₀ rest i = n - i
 
 -- src/lib.rt:94:9
 count-requires : tie.Need-count-requires Inv-loop μ-loop

@@ -17,16 +17,16 @@ returns : tie.Need-returns
 returns c = lands-some (c .before .before .before .before .before .before .pre) (c .before .before .chain-end .ensures) (c .before .if1 .taken) _ (c .lands-some .ensures)
 
 -- src/lib.rt:85:9
-line-requires : tie.Need-line-requires
-line-requires c κs = search spot-has
+row-requires : tie.Need-row-requires
+row-requires c κs = search spot-has
 
 -- src/lib.rt:86:5
 lands-in-requires : tie.Need-lands-in-requires
-lands-in-requires c κs = spot-on (c .before .before .before .before .before .before .pre) (c .before .before .chain-end .ensures) (c .line .ensures)
+lands-in-requires c κs = spot-on (c .before .before .before .before .before .before .pre) (c .before .before .chain-end .ensures) (c .row .ensures)
 
 -- src/lib.rt:78:1
 returns-2 : tie.Need-returns-2
-returns-2 c = lands-branch (c .before .before .before .before .before .before .before .pre) (c .before .before .before .chain-end .ensures) (c .before .before .if1 .left) _ (c .before .line .ensures) (c .lands-in .ensures)
+returns-2 c = lands-branch (c .before .before .before .before .before .before .before .pre) (c .before .before .before .chain-end .ensures) (c .before .before .if1 .left) _ (c .before .row .ensures) (c .lands-in .ensures)
 
 pub lands-spec : {M : Type 1} → statement M
 lands-spec =
@@ -35,6 +35,6 @@ lands-spec =
     chain-end-requires
     lands-some-requires
     returns
-    line-requires
+    row-requires
     lands-in-requires
     returns-2)

@@ -7,26 +7,26 @@ use Rattle.step_rows.proofs.copy.Statement.{statement}
 use Rattle.step_rows.proofs.copy.Tie as tie
 
 abbrev Inv-loop : tie.InvT-loop
-Inv-loop lines₀ at run i₀ lines i = Copying lines₀ at run i lines
+Inv-loop rows₀ at run i₀ rows i = Copying rows₀ at run i rows
 
 abbrev μ-loop : tie.MeasureT-loop
-μ-loop lines₀ at run i₀ lines i = length run - i
+μ-loop rows₀ at run i₀ rows i = length run - i
 
 -- src/lib.rt:29:5
 loop-holds : tie.Need-loop-holds Inv-loop μ-loop
 loop-holds c = search copying-start
 
 -- src/lib.rt:30:25
-shared-slice-read-lines : tie.Need-shared-slice-read-lines Inv-loop μ-loop
-shared-slice-read-lines c = omega arith
+shared-slice-read-rows : tie.Need-shared-slice-read-rows Inv-loop μ-loop
+shared-slice-read-rows c = omega arith
 
 -- src/lib.rt:30:15
-add-lines : tie.Need-add-lines Inv-loop μ-loop
-add-lines c = omega arith
+add-rows : tie.Need-add-rows Inv-loop μ-loop
+add-rows c = omega arith
 
 -- src/lib.rt:30:9
-element-write-lines : tie.Need-element-write-lines Inv-loop μ-loop
-element-write-lines c = omega arith
+element-write-rows : tie.Need-element-write-rows Inv-loop μ-loop
+element-write-rows c = omega arith
 
 -- src/lib.rt:31:9
 add-i : tie.Need-add-i Inv-loop μ-loop
@@ -51,9 +51,9 @@ copy-spec =
     Inv-loop
     μ-loop
     loop-holds
-    shared-slice-read-lines
-    add-lines
-    element-write-lines
+    shared-slice-read-rows
+    add-rows
+    element-write-rows
     add-i
     loop-less
     loop-again

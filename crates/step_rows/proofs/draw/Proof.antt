@@ -8,10 +8,10 @@ use Rattle.step_rows.proofs.draw.Statement.{statement}
 use Rattle.step_rows.proofs.draw.Tie as tie
 
 abbrev Inv-loop : tie.InvT-loop
-Inv-loop asked lines₀ n rest₀ j₀ lines rest j = Drawing asked n j rest lines
+Inv-loop asked rows₀ n rest₀ j₀ rows rest j = Drawing asked n j rest rows
 
 abbrev μ-loop : tie.MeasureT-loop
-μ-loop asked lines₀ n rest₀ j₀ lines rest j = n - j
+μ-loop asked rows₀ n rest₀ j₀ rows rest j = n - j
 
 -- src/lib.rt:56:9
 count-requires : tie.Need-count-requires Inv-loop μ-loop
@@ -30,8 +30,8 @@ lead-path-requires : tie.Need-lead-path-requires Inv-loop μ-loop
 lead-path-requires c κs = search drawing-holds
 
 -- src/lib.rt:61:9
-write-line-requires : tie.Need-write-line-requires Inv-loop μ-loop
-write-line-requires c κs = search drawing-writes
+write-row-requires : tie.Need-write-row-requires Inv-loop μ-loop
+write-row-requires c κs = search drawing-writes
 
 -- src/lib.rt:62:13
 after-path-requires : tie.Need-after-path-requires Inv-loop μ-loop
@@ -47,7 +47,7 @@ loop-less c = omega arith
 
 -- src/lib.rt:59:5
 loop-again : tie.Need-loop-again Inv-loop μ-loop
-loop-again c = drawing-more (c .before .before .before .before .before .loop .inv) (search needs) (c .before .before .before .lead-path .ensures) (c .before .write-line .ensures) (c .after-path .ensures)
+loop-again c = drawing-more (c .before .before .before .before .before .loop .inv) (search needs) (c .before .before .before .lead-path .ensures) (c .before .write-row .ensures) (c .after-path .ensures)
 
 -- src/lib.rt:51:1
 returns : tie.Need-returns Inv-loop μ-loop
@@ -63,7 +63,7 @@ draw-spec =
     paths-requires
     loop-holds
     lead-path-requires
-    write-line-requires
+    write-row-requires
     after-path-requires
     add-j
     loop-less

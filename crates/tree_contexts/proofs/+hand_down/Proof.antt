@@ -1,5 +1,5 @@
 use Rattle.tree_contexts.specs.Least.{least-empty, least-part, least-long}
-use Rattle.tree_table.specs.Ready.{parents-smaller}
+use Rattle.tree_table.specs.LinkedTree.{parents-smaller}
 use lib.ListN.{length, length-take, length-drop}
 use denote.Ref.{now}
 use borrow.Author.Needs.{needs}

@@ -3,7 +3,7 @@ use mathlib.Core.Path.{_≡_, refl, _∙_}
 use mathlib.Core.List.{[], _∷_}
 use native.Mathlib.Omega.{arith}
 use Rattle.tree_table.specs.FileTable.{fileTable}
-use Rattle.tree_table.specs.Ready.{parents-smaller}
+use Rattle.tree_table.specs.LinkedTree.{parents-smaller}
 use Rattle.tree_rows.specs.Prepared.{Prepared}
 use Rattle.tree_contexts.specs.Least.{LeastAt}
 use Rattle.tree_contexts.specs.Turned.{TurnedTo, turned-more, any-start, any-turned, least-front}

@@ -3,7 +3,7 @@ use mathlib.Core.List.{[], _∷_}
 use native.Mathlib.Omega.{arith}
 use borrow.Author.Needs.{needs}
 use Rattle.tree_table.specs.FileTable.{fileTable}
-use Rattle.tree_table.specs.Ready.{parents-smaller}
+use Rattle.tree_table.specs.LinkedTree.{parents-smaller}
 use Rattle.tree_rows.specs.Prepared.{Prepared}
 use Rattle.tree_contexts.specs.Least.{LeastAt}
 use Rattle.tree_contexts.specs.Turned.{TurnedFrom, back-none, back-more, label-turned, least-back}

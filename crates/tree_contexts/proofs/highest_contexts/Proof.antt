@@ -1,4 +1,4 @@
-use Rattle.tree_table.specs.Ready.{parents-smaller}
+use Rattle.tree_table.specs.LinkedTree.{parents-smaller}
 use Rattle.tree_contexts.specs.Least.{least-long}
 use Rattle.tree_contexts.specs.Rooted.{tops-handed}
 use borrow.Author.Needs.{needs}

@@ -4,9 +4,9 @@ use Prim.Native.Nat.{_+_, _*_, _-_, _≤_}
 use denote.Ref.{now}
 use borrow.Author.Tests.{not-true, not-false}
 use Rattle.tree_table.specs.FileTable.{fileTable, classBy}
-use Rattle.tree_table.specs.Ready.{Ready}
+use Rattle.tree_table.specs.LinkedTree.{LinkedTree}
 use Rattle.tree_table.specs.Seek.{left}
-use Rattle.tree_rows.specs.Classed.{ClassedFrom, classes-decide}
+use Rattle.tree_rows.specs.Families.{FamiliesFrom, families-tell}
 use Rattle.tree_rows.specs.Rows.{row}
 use Rattle.tree_equal.specs.Nodes.{labels-differ, leaf-decides, attributes-differ, others-decide}
 use Rattle.tree_equal.specs.Lists.{kind-greater, Compared, compared-start, compared-more, compared-falls, least-inside, list-longer, lists-differ, lists-end}
@@ -25,7 +25,7 @@ use Rattle.tree_equal.proofs.children.seek.Reads as seek-reads
 use Rattle.read_record.proofs.classes.is_element.Reads as is-element-reads
 use Rattle.tree_table.proofs.fields.label.Reads as label-reads
 use Rattle.tree_table.proofs.fields.value.Reads as value-reads
-use Rattle.tree_rows.proofs.rows.class_of.Reads as class-of-reads
+use Rattle.tree_rows.proofs.rows.family_of.Reads as family-of-reads
 use Rattle.tree_rows.proofs.rows.first_child.Reads as first-child-reads
 use Rattle.tree_rows.proofs.rows.next_sibling.Reads as next-sibling-reads
 use Rattle.tree_equal.proofs.+children_eq+node_eq.{statement}
@@ -52,7 +52,7 @@ abbrev node-eq-below : ℕ → In 4 node-eq-kinds.ps
 node-eq-below t = and 4 node-eq-kinds.ps (falls 4 node-eq-kinds.ps _<_ μ-node-eq t) node-eq.Pre
 
 abbrev children-eq-Inv-loop : children-eq-lts.InvT-loop
-children-eq-Inv-loop tree classes rows marks₀ from x y i₀ j₀ marks i j = Ready classes tree (row 8192 rows) (row 12288 rows) × ClassedFrom (classBy classes) (fileTable tree) (row 16384 rows) from
+children-eq-Inv-loop tree classes rows marks₀ from x y i₀ j₀ marks i j = LinkedTree classes tree (row 8192 rows) (row 12288 rows) × FamiliesFrom (classBy classes) (fileTable tree) (row 16384 rows) from
     × (from ≤ x + 1) × (from ≤ y + 1) × Compared (classBy classes) (fileTable tree) false x y i j × Clean marks
 
 abbrev children-eq-μ-loop : children-eq-lts.MeasureT-loop
@@ -263,9 +263,9 @@ children-eq-returns-3 : (t : ℕ) → children-eq-lts.Need-returns-3 (
 children-eq-returns-3 t c = let i = c .before .loop .inv in (lists-end _ _ _ _ _ _ _ (i .4) (omega arith), i .5)
 
 -- src/lib.rt:45:20
-node-eq-class-of-requires : (t : ℕ) → node-eq-lts.Need-class-of-requires (
-  class-of-reads.Asked,
-  class-of-reads.Learnt,
+node-eq-family-of-requires : (t : ℕ) → node-eq-lts.Need-family-of-requires (
+  family-of-reads.Asked,
+  family-of-reads.Learnt,
   label-reads.Asked,
   label-reads.Learnt,
   is-element-reads.Asked,
@@ -277,12 +277,12 @@ node-eq-class-of-requires : (t : ℕ) → node-eq-lts.Need-class-of-requires (
   children-eq-below t,
   children-eq.Post,
 ) (node-eq-at t) node-eq.Post
-node-eq-class-of-requires t c κs = let b = c .before .before .before .pre .1 in let f = b .0 .0 .tree .few in let h = b .1 .0 in omega arith
+node-eq-family-of-requires t c κs = let b = c .before .before .before .pre .1 in let f = b .0 .0 .tree .few in let h = b .1 .0 in omega arith
 
 -- src/lib.rt:45:41
-node-eq-class-of-requires-2 : (t : ℕ) → node-eq-lts.Need-class-of-requires-2 (
-  class-of-reads.Asked,
-  class-of-reads.Learnt,
+node-eq-family-of-requires-2 : (t : ℕ) → node-eq-lts.Need-family-of-requires-2 (
+  family-of-reads.Asked,
+  family-of-reads.Learnt,
   label-reads.Asked,
   label-reads.Learnt,
   is-element-reads.Asked,
@@ -294,12 +294,12 @@ node-eq-class-of-requires-2 : (t : ℕ) → node-eq-lts.Need-class-of-requires-2
   children-eq-below t,
   children-eq.Post,
 ) (node-eq-at t) node-eq.Post
-node-eq-class-of-requires-2 t c κs = let b = c .before .before .before .before .pre .1 in let f = b .0 .0 .tree .few in let h = b .1 .1 in omega arith
+node-eq-family-of-requires-2 t c κs = let b = c .before .before .before .before .pre .1 in let f = b .0 .0 .tree .few in let h = b .1 .1 in omega arith
 
 -- src/lib.rt:45:13
 node-eq-returns : (t : ℕ) → node-eq-lts.Need-returns (
-  class-of-reads.Asked,
-  class-of-reads.Learnt,
+  family-of-reads.Asked,
+  family-of-reads.Learnt,
   label-reads.Asked,
   label-reads.Learnt,
   is-element-reads.Asked,
@@ -312,12 +312,12 @@ node-eq-returns : (t : ℕ) → node-eq-lts.Need-returns (
   children-eq.Post,
 ) (node-eq-at t) node-eq.Post
 node-eq-returns t c = let b = c .before .before .before .before .before .pre .1 in
-    (classes-decide _ _ _ _ _ _ _ _ (b .0 .1) (c .before .before .before .if1 .taken) (b .1 .0) (c .before .before .if2 .taken) (b .1 .1) (c .before .class-of .ensures .0) (c .class-of2 .ensures .0), b .1 .4)
+    (families-tell _ _ _ _ _ _ _ _ (b .0 .1) (c .before .before .before .if1 .taken) (b .1 .0) (c .before .before .if2 .taken) (b .1 .1) (c .before .family-of .ensures .0) (c .family-of2 .ensures .0), b .1 .4)
 
 -- src/lib.rt:48:9
 node-eq-label-requires : (t : ℕ) → node-eq-lts.Need-label-requires (
-  class-of-reads.Asked,
-  class-of-reads.Learnt,
+  family-of-reads.Asked,
+  family-of-reads.Learnt,
   label-reads.Asked,
   label-reads.Learnt,
   is-element-reads.Asked,
@@ -333,8 +333,8 @@ node-eq-label-requires t c κs = c .before .before .pre .1 .1 .0
 
 -- src/lib.rt:49:9
 node-eq-label-requires-2 : (t : ℕ) → node-eq-lts.Need-label-requires-2 (
-  class-of-reads.Asked,
-  class-of-reads.Learnt,
+  family-of-reads.Asked,
+  family-of-reads.Learnt,
   label-reads.Asked,
   label-reads.Learnt,
   is-element-reads.Asked,
@@ -350,8 +350,8 @@ node-eq-label-requires-2 t c κs = c .before .before .before .pre .1 .1 .1
 
 -- src/lib.rt:51:9
 node-eq-returns-2 : (t : ℕ) → node-eq-lts.Need-returns-2 (
-  class-of-reads.Asked,
-  class-of-reads.Learnt,
+  family-of-reads.Asked,
+  family-of-reads.Learnt,
   label-reads.Asked,
   label-reads.Learnt,
   is-element-reads.Asked,
@@ -367,8 +367,8 @@ node-eq-returns-2 t c = (labels-differ _ _ _ _ _ _ (c .before .before .label .en
 
 -- src/lib.rt:53:9
 node-eq-is-element-requires : (t : ℕ) → node-eq-lts.Need-is-element-requires (
-  class-of-reads.Asked,
-  class-of-reads.Learnt,
+  family-of-reads.Asked,
+  family-of-reads.Learnt,
   label-reads.Asked,
   label-reads.Learnt,
   is-element-reads.Asked,
@@ -384,8 +384,8 @@ node-eq-is-element-requires t c κs = c .before .before .label .ensures .1
 
 -- src/lib.rt:54:16
 node-eq-value-requires : (t : ℕ) → node-eq-lts.Need-value-requires (
-  class-of-reads.Asked,
-  class-of-reads.Learnt,
+  family-of-reads.Asked,
+  family-of-reads.Learnt,
   label-reads.Asked,
   label-reads.Learnt,
   is-element-reads.Asked,
@@ -401,8 +401,8 @@ node-eq-value-requires t c κs = c .before .before .before .before .before .befo
 
 -- src/lib.rt:54:34
 node-eq-value-requires-2 : (t : ℕ) → node-eq-lts.Need-value-requires-2 (
-  class-of-reads.Asked,
-  class-of-reads.Learnt,
+  family-of-reads.Asked,
+  family-of-reads.Learnt,
   label-reads.Asked,
   label-reads.Learnt,
   is-element-reads.Asked,
@@ -418,8 +418,8 @@ node-eq-value-requires-2 t c κs = c .before .before .before .before .before .be
 
 -- src/lib.rt:54:9
 node-eq-returns-3 : (t : ℕ) → node-eq-lts.Need-returns-3 (
-  class-of-reads.Asked,
-  class-of-reads.Learnt,
+  family-of-reads.Asked,
+  family-of-reads.Learnt,
   label-reads.Asked,
   label-reads.Learnt,
   is-element-reads.Asked,
@@ -435,8 +435,8 @@ node-eq-returns-3 t c = (leaf-decides _ _ _ _ _ _ _ _ _ (c .before .before .befo
 
 -- src/lib.rt:56:9
 node-eq-attributes-eq-requires : (t : ℕ) → node-eq-lts.Need-attributes-eq-requires (
-  class-of-reads.Asked,
-  class-of-reads.Learnt,
+  family-of-reads.Asked,
+  family-of-reads.Learnt,
   label-reads.Asked,
   label-reads.Learnt,
   is-element-reads.Asked,
@@ -452,8 +452,8 @@ node-eq-attributes-eq-requires t c κs = c .before .before .before .before .befo
 
 -- src/lib.rt:57:9
 node-eq-returns-4 : (t : ℕ) → node-eq-lts.Need-returns-4 (
-  class-of-reads.Asked,
-  class-of-reads.Learnt,
+  family-of-reads.Asked,
+  family-of-reads.Learnt,
   label-reads.Asked,
   label-reads.Learnt,
   is-element-reads.Asked,
@@ -469,8 +469,8 @@ node-eq-returns-4 t c = (attributes-differ _ _ _ _ _ _ _ (c .before .before .bef
 
 -- src/lib.rt:59:5
 node-eq-children-eq-requires : (t : ℕ) → node-eq-lts.Need-children-eq-requires (
-  class-of-reads.Asked,
-  class-of-reads.Learnt,
+  family-of-reads.Asked,
+  family-of-reads.Learnt,
   label-reads.Asked,
   label-reads.Learnt,
   is-element-reads.Asked,
@@ -486,8 +486,8 @@ node-eq-children-eq-requires t c κs = let b = c .before .before .before .before
 
 -- src/lib.rt:29:1
 node-eq-returns-5 : (t : ℕ) → node-eq-lts.Need-returns-5 (
-  class-of-reads.Asked,
-  class-of-reads.Learnt,
+  family-of-reads.Asked,
+  family-of-reads.Learnt,
   label-reads.Asked,
   label-reads.Learnt,
   is-element-reads.Asked,
@@ -532,8 +532,8 @@ pub +children-eq+node-eq-spec : {M : Type 1} → statement M
     (children-eq-loop-again t)
     (children-eq-returns-3 t))
     λ t. node-eq-lts.spec (
-      class-of-reads.Asked,
-      class-of-reads.Learnt,
+      family-of-reads.Asked,
+      family-of-reads.Learnt,
       label-reads.Asked,
       label-reads.Learnt,
       is-element-reads.Asked,
@@ -547,8 +547,8 @@ pub +children-eq+node-eq-spec : {M : Type 1} → statement M
     )
     (node-eq-at t)
     node-eq.Post
-    (node-eq-class-of-requires t)
-    (node-eq-class-of-requires-2 t)
+    (node-eq-family-of-requires t)
+    (node-eq-family-of-requires-2 t)
     (node-eq-returns t)
     (node-eq-label-requires t)
     (node-eq-label-requires-2 t)

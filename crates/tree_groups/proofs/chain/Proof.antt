@@ -3,7 +3,7 @@ use mathlib.Core.Path.{_≡_}
 use native.Mathlib.Omega.{arith}
 use lib.ListN.{length, length-set}
 use Rattle.tree_table.specs.Links.{LinkedFrom}
-use Rattle.tree_rows.specs.Chain.{byClass, chain-none, chain-step, chain-all}
+use Rattle.tree_rows.specs.Chain.{byFamily, chain-none, chain-step, chain-all}
 use Rattle.tree_groups.proofs.chain.Statement.{statement}
 use Rattle.tree_groups.proofs.chain.Tie as tie
 use Rattle.tree_groups.proofs.chain.Reads as reads
@@ -12,10 +12,10 @@ use Rattle.tree_table.proofs.tables.at.Reads as at-reads
 use Rattle.tree_table.proofs.tables.blank.Reads as blank-reads
 
 abbrev Inv-loop : tie.InvT-loop
-Inv-loop class count last₀ same₀ x₀ last same x = (0 < x) × (x ≤ count) × (length last ≡ 4096) × (length same ≡ 4096) × LinkedFrom (byClass count class) x last same
+Inv-loop family count last₀ same₀ x₀ last same x = (0 < x) × (x ≤ count) × (length last ≡ 4096) × (length same ≡ 4096) × LinkedFrom (byFamily count family) x last same
 
 abbrev μ-loop : tie.MeasureT-loop
-μ-loop class count last₀ same₀ x₀ last same x = x
+μ-loop family count last₀ same₀ x₀ last same x = x
 
 -- src/lib.rt:93:20
 blank-requires : tie.Need-blank-requires Inv-loop μ-loop

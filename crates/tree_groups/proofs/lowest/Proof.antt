@@ -7,7 +7,7 @@ use Rattle.tree_groups.proofs.lowest.Tie as tie
 use Rattle.tree_groups.proofs.lowest.Reads as reads
 use Rattle.tree_groups.proofs.lowest.Lts as lts
 use Rattle.tree_table.proofs.tables.blank.Reads as blank-reads
-use Rattle.tree_rows.proofs.rows.class_of.Reads as class-of-reads
+use Rattle.tree_rows.proofs.rows.family_of.Reads as family-of-reads
 
 abbrev Inv-loop : tie.InvT-loop
 Inv-loop rows count low₀ x₀ low x = (0 < x) × (x ≤ count) × LowFrom (row 16384 rows) low count x
@@ -28,8 +28,8 @@ sub-x : tie.Need-sub-x Inv-loop μ-loop
 sub-x c = omega arith
 
 -- src/lib.rt:148:13
-class-of-requires : tie.Need-class-of-requires Inv-loop μ-loop
-class-of-requires c κs = let p = c .before .before .before .pre .1 in omega arith
+family-of-requires : tie.Need-family-of-requires Inv-loop μ-loop
+family-of-requires c κs = let p = c .before .before .before .pre .1 in omega arith
 
 -- src/lib.rt:149:20
 cast-low : tie.Need-cast-low Inv-loop μ-loop
@@ -37,12 +37,12 @@ cast-low c = record { fits = let p = c .before .before .before .before .pre .1 i
 
 -- src/lib.rt:149:9
 mul-low : tie.Need-mul-low Inv-loop μ-loop
-mul-low c = record { fits = let e = c .class-of .ensures .1 in omega arith }
+mul-low c = record { fits = let e = c .family-of .ensures .1 in omega arith }
 
 -- src/lib.rt:149:9
 array-write-low : tie.Need-array-write-low Inv-loop μ-loop
 array-write-low c = let p = c .before .before .before .before .pre in
-    let e = c .class-of .ensures .0 in
+    let e = c .family-of .ensures .0 in
     let g = p .2 (c .before .before .loop .x - 1) (omega arith) in
     let f = p .1 in
     omega arith
@@ -54,7 +54,7 @@ loop-less c = omega arith
 -- src/lib.rt:146:5
 loop-again : tie.Need-loop-again Inv-loop μ-loop
 loop-again c = let p = c .before .before .before .before .pre in
-    let e = c .class-of .ensures .0 in
+    let e = c .family-of .ensures .0 in
     let g = p .2 (c .before .before .loop .x - 1) (omega arith) in
     let v = c .before .before .loop .inv in
     (omega arith, omega arith, low-step _ _ _ _ _ (c .before .loop-test .taken) (v .1) e (omega arith) (v .2))
@@ -72,7 +72,7 @@ lowest-spec =
     blank-requires
     loop-holds
     sub-x
-    class-of-requires
+    family-of-requires
     cast-low
     mul-low
     array-write-low

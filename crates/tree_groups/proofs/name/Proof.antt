@@ -7,7 +7,7 @@ use Rattle.tree_groups.proofs.name.Statement.{statement}
 use Rattle.tree_groups.proofs.name.Tie as tie
 use Rattle.tree_groups.proofs.name.Reads as reads
 use Rattle.tree_groups.proofs.name.Lts as lts
-use Rattle.tree_rows.proofs.rows.class_of.Reads as class-of-reads
+use Rattle.tree_rows.proofs.rows.family_of.Reads as family-of-reads
 
 abbrev Inv-loop : tie.InvT-loop
 Inv-loop low count rows₀ x₀ rows x = (count ≤ 4096) × (0 < x) × (x ≤ count) × ((v : ℕ) → v < count → getD (row 16384 rows₀) v 0 < count) × Naming low rows₀ rows x
@@ -20,16 +20,16 @@ loop-holds : tie.Need-loop-holds Inv-loop μ-loop
 loop-holds c = let p = c .pre in (p .0 .1, omega arith, (let s = p .0 .0 in omega arith), p .0 .2, naming-none _ _ (p .1 .0) (p .1 .1))
 
 -- src/lib.rt:162:13
-class-of-requires : tie.Need-class-of-requires Inv-loop μ-loop
-class-of-requires c κs = omega arith
+family-of-requires : tie.Need-family-of-requires Inv-loop μ-loop
+family-of-requires c κs = omega arith
 
 -- src/lib.rt:163:27
 mul-rows : tie.Need-mul-rows Inv-loop μ-loop
-mul-rows c = record { fits = let e = c .class-of .ensures .1 in omega arith }
+mul-rows c = record { fits = let e = c .family-of .ensures .1 in omega arith }
 
 -- src/lib.rt:163:27
 element-copy-out-rows : tie.Need-element-copy-out-rows Inv-loop μ-loop
-element-copy-out-rows c = let i = c .before .before .before .loop .inv in let e = c .class-of .ensures .0 in let l = i .4 .left (c .before .before .before .loop .x) (omega arith) in let g = i .3 (c .before .before .before .loop .x) (omega arith) in omega arith
+element-copy-out-rows c = let i = c .before .before .before .loop .inv in let e = c .family-of .ensures .0 in let l = i .4 .left (c .before .before .before .loop .x) (omega arith) in let g = i .3 (c .before .before .before .loop .x) (omega arith) in omega arith
 
 -- src/lib.rt:163:14
 add-rows : tie.Need-add-rows Inv-loop μ-loop
@@ -53,7 +53,7 @@ loop-less c = omega arith
 
 -- src/lib.rt:161:5
 loop-again : tie.Need-loop-again Inv-loop μ-loop
-loop-again c = let i = c .before .before .before .before .loop .inv in (i .0, omega arith, omega arith, i .3, naming-step _ _ (c .before .before .before .before .loop .rows) (c .before .before .before .before .loop .x) (c .before .class-of .result) (i .1) (omega arith) (c .before .class-of .ensures .0) (i .4))
+loop-again c = let i = c .before .before .before .before .loop .inv in (i .0, omega arith, omega arith, i .3, naming-step _ _ (c .before .before .before .before .loop .rows) (c .before .before .before .before .loop .x) (c .before .family-of .result) (i .1) (omega arith) (c .before .family-of .ensures .0) (i .4))
 
 -- src/lib.rt:155:1
 returns : tie.Need-returns Inv-loop μ-loop
@@ -66,7 +66,7 @@ name-spec =
     Inv-loop
     μ-loop
     loop-holds
-    class-of-requires
+    family-of-requires
     mul-rows
     element-copy-out-rows
     add-rows

@@ -5,7 +5,7 @@ use Rattle.tree_groups.proofs.prepare.Statement.{statement}
 use Rattle.tree_groups.proofs.prepare.Tie as tie
 use Rattle.tree_groups.proofs.prepare.Reads as reads
 use Rattle.tree_groups.proofs.prepare.Lts as lts
-use Rattle.tree_groups.proofs.chain_classes.Reads as chain-classes-reads
+use Rattle.tree_groups.proofs.chain_families.Reads as chain-families-reads
 use Rattle.tree_groups.proofs.gather.Reads as gather-reads
 use Rattle.tree_groups.proofs.link.Reads as link-reads
 use Rattle.tree_groups.proofs.lowest.Reads as lowest-reads
@@ -41,19 +41,19 @@ gather-requires c κs = search needs
 
 -- src/lib.rt:194:15
 lowest-requires : tie.Need-lowest-requires
-lowest-requires c κs = count-fits (c .before .before .before .before .before .before .before .before .before .before .before .before .before .pre .0) (c .before .gather .ensures .classed) (c .before .before .before .before .before .before .before .before .before .before .before .size .ensures)
+lowest-requires c κs = count-fits (c .before .before .before .before .before .before .before .before .before .before .before .before .before .pre .0) (c .before .gather .ensures .families) (c .before .before .before .before .before .before .before .before .before .before .before .size .ensures)
 
 -- src/lib.rt:195:5
 name-requires : tie.Need-name-requires
-name-requires c κs = (count-fits (c .before .before .before .before .before .before .before .before .before .before .before .before .before .before .before .before .pre .0) (c .before .before .before .before .gather .ensures .classed) (c .before .before .before .before .before .before .before .before .before .before .before .before .before .before .size .ensures), (c .before .before .before .before .gather .ensures .only .long, c .before .before .before .before .gather .ensures .root))
+name-requires c κs = (count-fits (c .before .before .before .before .before .before .before .before .before .before .before .before .before .before .before .before .pre .0) (c .before .before .before .before .gather .ensures .families) (c .before .before .before .before .before .before .before .before .before .before .before .before .before .before .size .ensures), (c .before .before .before .before .gather .ensures .only .long, c .before .before .before .before .gather .ensures .root))
 
 -- src/lib.rt:196:5
-chain-classes-requires : tie.Need-chain-classes-requires
-chain-classes-requires c κs = chain-fits (c .before .before .before .before .before .before .before .before .before .before .before .before .before .before .before .before .before .before .pre .0) (c .before .before .before .before .before .before .before .before .before .before .before .before .before .before .before .before .size .ensures) (c .before .before .before .before .before .before .gather .ensures) (c .before .before .before .before .lowest .ensures) (c .before .name .ensures)
+chain-families-requires : tie.Need-chain-families-requires
+chain-families-requires c κs = chain-fits (c .before .before .before .before .before .before .before .before .before .before .before .before .before .before .before .before .before .before .pre .0) (c .before .before .before .before .before .before .before .before .before .before .before .before .before .before .before .before .size .ensures) (c .before .before .before .before .before .before .gather .ensures) (c .before .before .before .before .lowest .ensures) (c .before .name .ensures)
 
 -- src/lib.rt:184:1
 returns : tie.Need-returns
-returns c = rows-prepared _ _ _ _ _ _ _ _ _ _ _ (c .before .before .before .before .before .before .before .before .before .before .before .before .before .before .before .before .before .before .before .pre .0) (c .before .before .before .before .before .before .before .before .before .before .before .before .before .before .before .before .before .size .ensures) (c .before .before .before .before .before .before .before .before .before .before .before .before .before .before .before .put-parents .ensures) (c .before .before .before .before .before .before .before .before .before .before .before .before .before .put-labels .ensures) (c .before .before .before .before .before .before .before .before .before .before .before .link .ensures) (c .before .before .before .before .before .before .before .gather .ensures) (c .before .before .before .before .before .lowest .ensures) (c .before .before .name .ensures) (c .chain-classes .ensures)
+returns c = rows-prepared _ _ _ _ _ _ _ _ _ _ _ (c .before .before .before .before .before .before .before .before .before .before .before .before .before .before .before .before .before .before .before .pre .0) (c .before .before .before .before .before .before .before .before .before .before .before .before .before .before .before .before .before .size .ensures) (c .before .before .before .before .before .before .before .before .before .before .before .before .before .before .before .put-parents .ensures) (c .before .before .before .before .before .before .before .before .before .before .before .before .before .put-labels .ensures) (c .before .before .before .before .before .before .before .before .before .before .before .link .ensures) (c .before .before .before .before .before .before .before .gather .ensures) (c .before .before .before .before .before .lowest .ensures) (c .before .before .name .ensures) (c .chain-families .ensures)
 
 pub prepare-spec : {M : Type 1} → statement M
 prepare-spec =
@@ -67,5 +67,5 @@ prepare-spec =
     gather-requires
     lowest-requires
     name-requires
-    chain-classes-requires
+    chain-families-requires
     returns)

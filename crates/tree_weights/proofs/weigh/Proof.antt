@@ -3,7 +3,7 @@ use mathlib.Core.Path.{_≡_, _∙_, ap, ap₂}
 use native.Mathlib.Omega.{arith}
 use lib.ListN.{length, length-set}
 use Rattle.tree_table.specs.FileTable.{fileTable, classBy, TreeBytes}
-use Rattle.tree_table.specs.Ready.{bytes-tree}
+use Rattle.tree_table.specs.LinkedTree.{bytes-tree}
 use Rattle.tree_weights.specs.Sums.{unlessAttribute}
 use Rattle.tree_weights.specs.Weights.{WeighedFrom, weighed-none, weighed-step, weighed-end, weightOf}
 use Rattle.tree_weights.proofs.weigh.Statement.{statement}

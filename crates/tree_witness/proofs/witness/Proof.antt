@@ -1,7 +1,7 @@
 use native.Mathlib.Omega.{arith}
 use Rattle.meaning.specs.Records.{keyIn}
 use Rattle.theory_trees.specs.Witness.{firsts-first}
-use Rattle.tree_table.specs.Ready.{bytes-tree}
+use Rattle.tree_table.specs.LinkedTree.{bytes-tree}
 use Rattle.tree_witness.specs.Pairs.{targets-inside, pairs-four, padded-four}
 use Rattle.tree_witness.proofs.witness.Statement.{statement}
 use Rattle.tree_witness.proofs.witness.Tie as tie

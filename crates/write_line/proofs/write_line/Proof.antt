@@ -1,6 +1,6 @@
 use denote.Ref.{now}
 use native.Mathlib.Omega.{arith}
-use Rattle.theory_derive.specs.Parts.{norm-length}
+use Rattle.theory_pattern.specs.RowParts.{norm-length}
 use Rattle.write_bytes.specs.Wrote.{part-length}
 use Rattle.write_line.specs.LineParts.{line-wrote}
 use mathlib.Core.Path.{sym}

@@ -1,6 +1,6 @@
 -- `write_pattern::draw_below` meets its contract. One law of specs/ for each step.
 use native.Mathlib.Omega.{arith}
-use Rattle.write_pattern.specs.Parts.{room-of, room-less, cut-within, cut-before, on-few, below-drawn}
+use Rattle.write_pattern.specs.DrawnParts.{room-of, room-less, cut-within, cut-before, on-few, below-drawn}
 use borrow.Author.Needs.{needs}
 use Rattle.write_pattern.proofs.draw_below.Statement.{statement}
 use Rattle.write_pattern.proofs.draw_below.Tie as tie

@@ -1,6 +1,6 @@
 -- `write_pattern::draw_trunk` meets its contract. One law of specs/ for each step.
 use native.Mathlib.Omega.{arith}
-use Rattle.write_pattern.specs.Parts.{room-of, cut-within, cut-before, context-few, up-few, trunk-drawn}
+use Rattle.write_pattern.specs.DrawnParts.{room-of, cut-within, cut-before, context-few, up-few, trunk-drawn}
 use borrow.Author.Needs.{needs}
 use Rattle.write_pattern.proofs.draw_trunk.Statement.{statement}
 use Rattle.write_pattern.proofs.draw_trunk.Tie as tie

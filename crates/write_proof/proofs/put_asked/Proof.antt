@@ -1,4 +1,4 @@
-use Rattle.write_proof.specs.Ready.{asked-room, asked-wrote}
+use Rattle.write_proof.specs.Asks.{asked-room, asked-wrote}
 use mathlib.Core.Path.{refl}
 use native.Mathlib.Omega.{arith}
 use borrow.Author.Needs.{needs}

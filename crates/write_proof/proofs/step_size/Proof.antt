@@ -2,7 +2,7 @@ use Rattle.write_proof.specs.Sizes.{size-chain-empty, size-chain, size-e
 use Rattle.write_proof.specs.Whole.{chain-is-t}
 use borrow.Author.Needs.{needs}
 use Rattle.write_proof.proofs.step_size.Statement.{statement}
-use Rattle.theory_derive.specs.Spots.{holdsEmpty}
+use Rattle.theory_pattern.specs.Spots.{holdsEmpty}
 use Rattle.write_proof.proofs.step_size.Tie as tie
 use Rattle.write_proof.proofs.step_size.Reads as reads
 use Rattle.write_proof.proofs.step_size.Lts as lts

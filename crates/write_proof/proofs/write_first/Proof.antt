@@ -1,5 +1,5 @@
 use Rattle.write_proof.specs.Whole.{chain-put}
-use Rattle.theory_derive.specs.Lines.{chain-length}
+use Rattle.theory_pattern.specs.Rows.{chain-length}
 use Rattle.write_bytes.specs.Wrote.{wrote-more, part-length}
 use lib.ListN.{length}
 use mathlib.Core.Path.{sym, ap, _∙_}
@@ -39,8 +39,8 @@ put-requires-2 : tie.Need-put-requires-2
 put-requires-2 c κs = let u = c .before .before .before .before .before .before .before .before .pre .0 .fits .context-short in let v = c .before .before .before .before .before .before .before .before .pre .0 .fits .target-short in let e = ap length (c .before .before .before .before .context .ensures) in let x = ap length (c .target .ensures) in let a = c .before .before .before .put .ensures .after in let k = c .before .before .before .put .ensures .kept in omega arith
 
 -- src/lib.rt:184:22
-array-share-prefix-line : tie.Need-array-share-prefix-line
-array-share-prefix-line c = search needs
+array-share-prefix-row : tie.Need-array-share-prefix-row
+array-share-prefix-row c = search needs
 
 -- src/lib.rt:184:22
 slice-aggregate-write-split : tie.Need-slice-aggregate-write-split
@@ -69,7 +69,7 @@ write-first-spec =
     slice-aggregate-put-2
     target-requires
     put-requires-2
-    array-share-prefix-line
+    array-share-prefix-row
     slice-aggregate-write-split
     write-split-requires
     same-length

@@ -1,9 +1,9 @@
 use Rattle.write_proof.specs.Whole.{chain-is-t, opening-short, on-chain, on-empty, on-end}
-use Rattle.write_proof.specs.Ready.{opening-fits, step-fits, at-node}
+use Rattle.write_proof.specs.Asks.{opening-fits, step-fits, at-node}
 use native.Mathlib.Omega.{arith}
 use borrow.Author.Needs.{needs}
 use Rattle.write_proof.proofs.write_on.Statement.{statement}
-use Rattle.theory_derive.specs.Spots.{holdsEmpty}
+use Rattle.theory_pattern.specs.Spots.{holdsEmpty}
 use Rattle.write_proof.proofs.write_on.Tie as tie
 use Rattle.write_proof.proofs.write_on.Reads as reads
 use Rattle.write_proof.proofs.write_on.Lts as lts

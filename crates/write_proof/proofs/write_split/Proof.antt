@@ -15,7 +15,7 @@ first-rule-requires c κs = search needs
 
 -- src/lib.rt:173:43
 slice-aggregate-write-of-key : tie.Need-slice-aggregate-write-of-key
-slice-aggregate-write-of-key c = let h = c .before .before .before .before .before .before .pre .3 in let e = length-take (c .before .before .before .before .before .before .args .u) (c .before .before .before .before .before .before .args .line .now) in omega arith
+slice-aggregate-write-of-key c = let h = c .before .before .before .before .before .before .pre .3 in let e = length-take (c .before .before .before .before .before .before .args .u) (c .before .before .before .before .before .before .args .row .now) in omega arith
 
 -- src/lib.rt:173:55
 sub-write-of-key : tie.Need-sub-write-of-key

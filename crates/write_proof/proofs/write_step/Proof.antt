@@ -1,5 +1,5 @@
 use Rattle.write_proof.specs.Whole.{step-wrote}
-use Rattle.write_proof.specs.Ready.{on-line}
+use Rattle.write_proof.specs.Asks.{on-row}
 use Rattle.write_bytes.specs.Wrote.{part-length}
 use mathlib.Core.Path.{sym}
 use borrow.Author.Needs.{needs}
@@ -19,8 +19,8 @@ put-asked-requires : tie.Need-put-asked-requires
 put-asked-requires c κs = search needs
 
 -- src/lib.rt:82:30
-array-share-prefix-line : tie.Need-array-share-prefix-line
-array-share-prefix-line c = search needs
+array-share-prefix-row : tie.Need-array-share-prefix-row
+array-share-prefix-row c = search needs
 
 -- src/lib.rt:82:30
 slice-aggregate-write-on : tie.Need-slice-aggregate-write-on
@@ -28,7 +28,7 @@ slice-aggregate-write-on c = sym (part-length (c .before .before .before .put-as
 
 -- src/lib.rt:82:5
 write-on-requires : tie.Need-write-on-requires
-write-on-requires c κs = on-line (c .before .before .before .before .before .before .before .before .pre .0) (c .before .before .before .before .before .before .before .before .pre .1) (c .before .before .before .put-asked .ensures)
+write-on-requires c κs = on-row (c .before .before .before .before .before .before .before .before .pre .0) (c .before .before .before .before .before .before .before .before .pre .1) (c .before .before .before .put-asked .ensures)
 
 -- src/lib.rt:76:1
 same-length : tie.Need-same-length
@@ -44,7 +44,7 @@ write-step-spec =
     (tie.spec
     slice-aggregate-put-asked
     put-asked-requires
-    array-share-prefix-line
+    array-share-prefix-row
     slice-aggregate-write-on
     write-on-requires
     same-length

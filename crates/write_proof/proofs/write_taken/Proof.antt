@@ -1,5 +1,5 @@
 use Rattle.write_proof.specs.Whole.{body-is, record-end, record-long, taken-wrote}
-use Rattle.write_proof.specs.Ready.{SpotReady}
+use Rattle.write_proof.specs.Asks.{SpotReady}
 use Rattle.step_search.specs.Ranges.{stepOf}
 use denote.Ref.{now}
 use Prim.Native.Nat.{ℕ}

@@ -6,7 +6,7 @@ use lib.Seq.{length-take-le}
 use Rattle.write_bytes.specs.Wrote.{part-length}
 use Rattle.theory_records.specs.Bytes.{bytes-from}
 use Rattle.op_lean.specs.Leaned.{profile-room, accepted-keyed, accepted-cut, accepted-count}
-use Rattle.op_lean.specs.Found.{prove-none, proof-within, proof-given, proof-told}
+use Rattle.op_lean.specs.Returns.{prove-none, proof-within, proof-given, proof-told}
 use borrow.Author.Needs.{needs}
 use Rattle.op_lean.proofs.accepted.prove_accepted.Statement.{statement}
 use Rattle.op_lean.proofs.accepted.prove_accepted.Tie as tie

@@ -3,7 +3,7 @@ use native.Mathlib.Omega.{arith}
 use mathlib.Core.Path.{sym}
 use lib.Seq.{length-take-le}
 use Rattle.theory_records.specs.Bytes.{bytes-from}
-use Rattle.op_lean.specs.Leaned.{cut-within, cut-few, cut-choosable, cut-lean}
+use Rattle.op_lean.specs.Leaned.{cut-within, cut-choosable, cut-lean}
 use borrow.Author.Needs.{needs}
 use Rattle.op_lean.proofs.accepted.put_lean.Statement.{statement}
 use Rattle.op_lean.proofs.accepted.put_lean.Tie as tie

@@ -1,6 +1,6 @@
 use native.Mathlib.Omega.{arith}
 use Rattle.op_lean.specs.Leaned.{accepted-keyed, accepted-cut, accepted-count}
-use Rattle.op_lean.specs.Found.{reduce-fills}
+use Rattle.op_lean.specs.Returns.{reduce-fills}
 use borrow.Author.Needs.{needs}
 use Rattle.op_lean.proofs.accepted.reduce_accepted.Statement.{statement}
 use Rattle.op_lean.proofs.accepted.reduce_accepted.Tie as tie

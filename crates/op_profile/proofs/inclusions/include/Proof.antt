@@ -1,4 +1,4 @@
-use Rattle.op_profile.specs.Found.{include-stops}
+use Rattle.op_profile.specs.Returns.{include-stops}
 use Rattle.op_accept.specs.Taken.{tables-of, taken-ready}
 use borrow.Author.Needs.{needs}
 use Rattle.op_profile.proofs.inclusions.include.Statement.{statement}

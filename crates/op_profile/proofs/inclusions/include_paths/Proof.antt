@@ -1,5 +1,5 @@
 use borrow.Author.Needs.{needs}
-use Rattle.op_profile.specs.Found.{first-stops-here, second-stops-here, included-here, not-included-here, short-path}
+use Rattle.op_profile.specs.Returns.{first-stops-here, second-stops-here, included-here, not-included-here, short-path}
 use Rattle.op_profile.proofs.inclusions.include_paths.Statement.{statement}
 use Rattle.op_profile.proofs.inclusions.include_paths.Tie as tie
 use Rattle.op_profile.proofs.inclusions.include_paths.Reads as reads

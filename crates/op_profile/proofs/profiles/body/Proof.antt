@@ -1,4 +1,4 @@
-use Rattle.op_profile.specs.Found.{body-none, body-there}
+use Rattle.op_profile.specs.Returns.{body-none, body-there}
 use borrow.Author.Needs.{needs}
 use Rattle.op_profile.proofs.profiles.body.Statement.{statement}
 use Rattle.op_profile.proofs.profiles.body.Tie as tie

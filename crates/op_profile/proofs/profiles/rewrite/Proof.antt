@@ -1,5 +1,5 @@
-use Rattle.read_record.specs.Classes.{Bytes}
-use Rattle.op_profile.specs.Found.{small-rewrites, rewrite-stops, rewrite-fills, fits-answer}
+use Rattle.read_record.specs.Classes.{ByteAt}
+use Rattle.op_profile.specs.Returns.{small-rewrites, rewrite-stops, rewrite-fills, fits-answer}
 use borrow.Author.Needs.{needs}
 use Rattle.op_profile.proofs.profiles.rewrite.Statement.{statement}
 use Rattle.op_profile.proofs.profiles.rewrite.Tie as tie
@@ -44,7 +44,7 @@ same-length c = search needs
 -- src/profiles.rt:17:1
 returns-3 : tie.Need-returns-3
 returns-3 c =
-    let small : Bytes (denote.Ref.now (c .before .before .before .before .before .before .before .before .before .before .args .profile)) = λ i. c .before .before .before .before .before .before .before .before .before .shared-slice-known .given i .fits in
+    let small : ByteAt (denote.Ref.now (c .before .before .before .before .before .before .before .before .before .before .args .profile)) = λ i. c .before .before .before .before .before .before .before .before .before .shared-slice-known .given i .fits in
     search (rewrite-fills)
 
 pub rewrite-spec : {M : Type 1} → statement M

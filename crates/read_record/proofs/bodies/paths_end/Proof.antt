@@ -2,7 +2,7 @@
 use borrow.Author.Needs.{needs}
 use mathlib.Core.Path.{refl, sym, _∙_}
 use borrow.Author.Tests.{not-false}
-use Rattle.read_record.specs.Parts.{pathsEnd}
+use Rattle.read_record.specs.BodyParts.{pathsEnd}
 use Rattle.read_record.specs.Bodies.{Ends, ends-next, ends-stop, ends-done}
 use Rattle.read_record.proofs.bodies.paths_end.Statement.{statement}
 use Rattle.read_record.proofs.bodies.paths_end.Tie as tie

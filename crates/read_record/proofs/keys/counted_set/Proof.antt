@@ -1,6 +1,6 @@
 -- `read_record::keys::counted_set` meets its contract. One law of specs/ for each return.
 use mathlib.Core.Path.{_∙_, ap}
-use Rattle.read_record.specs.Parts.{holdsPath, afterPath, setIn}
+use Rattle.read_record.specs.BodyParts.{holdsPath, afterPath, setIn}
 use Rattle.read_record.specs.KeyPaths.{context-holds, target-holds}
 use Rattle.read_record.proofs.keys.counted_set.Statement.{statement}
 use Rattle.read_record.proofs.keys.counted_set.Tie as tie

@@ -1,6 +1,6 @@
 -- `read_record::keys::target` meets its contract. One law of specs/ for each return.
 use mathlib.Core.Path.{_∙_, ap}
-use Rattle.read_record.specs.Parts.{holdsPath, leadPath}
+use Rattle.read_record.specs.BodyParts.{holdsPath, leadPath}
 use Rattle.read_record.specs.KeyPaths.{context-holds, target-holds, target-is}
 use Rattle.read_record.proofs.keys.target.Statement.{statement}
 use Rattle.read_record.proofs.keys.target.Tie as tie

@@ -4,7 +4,7 @@ use Rattle.rule_tests.proofs.rules.concludes_from.Statement.{statement}
 use Rattle.rule_tests.proofs.rules.concludes_from.Tie as tie
 use Rattle.rule_tests.proofs.rules.concludes_from.Reads as reads
 use Rattle.rule_tests.proofs.rules.concludes_from.Lts as lts
-use Rattle.rule_tests.proofs.compare.is_both.Reads as is-both-reads
+use Rattle.rule_joins.proofs.is_both.Reads as is-both-reads
 use Rattle.rule_tests.proofs.rules.same_context.Reads as same-context-reads
 use Rattle.rule_tests.proofs.sets.same_sets.Reads as same-sets-reads
 use Rattle.read_record.proofs.keys.target.Reads as target-reads

@@ -4,7 +4,7 @@ use Rattle.rule_tests.proofs.rules.longer_last.Statement.{statement}
 use Rattle.rule_tests.proofs.rules.longer_last.Tie as tie
 use Rattle.rule_tests.proofs.rules.longer_last.Reads as reads
 use Rattle.rule_tests.proofs.rules.longer_last.Lts as lts
-use Rattle.rule_tests.proofs.compare.is_both.Reads as is-both-reads
+use Rattle.rule_joins.proofs.is_both.Reads as is-both-reads
 use Rattle.rule_tests.proofs.rules.is_with_empty.Reads as is-with-empty-reads
 use Rattle.rule_tests.proofs.rules.last_path.Reads as last-path-reads
 use Rattle.read_record.proofs.keys.target.Reads as target-reads

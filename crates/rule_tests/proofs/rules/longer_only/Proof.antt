@@ -4,7 +4,7 @@ use Rattle.rule_tests.proofs.rules.longer_only.Statement.{statement}
 use Rattle.rule_tests.proofs.rules.longer_only.Tie as tie
 use Rattle.rule_tests.proofs.rules.longer_only.Reads as reads
 use Rattle.rule_tests.proofs.rules.longer_only.Lts as lts
-use Rattle.rule_tests.proofs.compare.is_both.Reads as is-both-reads
+use Rattle.rule_joins.proofs.is_both.Reads as is-both-reads
 use Rattle.read_record.proofs.keys.count.Reads as count-reads
 use Rattle.read_record.proofs.keys.path.Reads as path-reads
 use Rattle.read_record.proofs.keys.target.Reads as target-reads

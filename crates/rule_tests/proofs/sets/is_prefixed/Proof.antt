@@ -7,7 +7,7 @@ use Rattle.rule_tests.proofs.sets.is_prefixed.Statement.{statement}
 use Rattle.rule_tests.proofs.sets.is_prefixed.Tie as tie
 use Rattle.rule_tests.proofs.sets.is_prefixed.Reads as reads
 use Rattle.rule_tests.proofs.sets.is_prefixed.Lts as lts
-use Rattle.rule_tests.proofs.compare.is_both.Reads as is-both-reads
+use Rattle.rule_joins.proofs.is_both.Reads as is-both-reads
 use Rattle.read_record.proofs.bodies.after_path.Reads as after-path-reads
 use Rattle.read_record.proofs.bodies.lead_path.Reads as lead-path-reads
 use Rattle.read_record.proofs.keys.count.Reads as count-reads

@@ -1,4 +1,4 @@
-use Rattle.rule_tests.specs.Parts.{same-sets-law}
+use Rattle.rule_tests.specs.SetBytes.{same-sets-law}
 use borrow.Author.Needs.{needs}
 use Rattle.rule_tests.proofs.sets.same_sets.Statement.{statement}
 use Rattle.rule_tests.proofs.sets.same_sets.Tie as tie

@@ -8,10 +8,10 @@ use Rattle.step_search.proofs.firing.fire_at.Statement.{statement}
 use Rattle.step_search.proofs.firing.fire_at.Tie as tie
 
 abbrev Inv-loop : tie.InvT-loop
-Inv-loop asked lines key number j k u i₀ i = Climbing (keyIn asked) (keyIn key) u j k i
+Inv-loop asked rows key number j k u i₀ i = Climbing (keyIn asked) (keyIn key) u j k i
 
 abbrev μ-loop : tie.MeasureT-loop
-μ-loop asked lines key number j k u i₀ i = u + 1 - i
+μ-loop asked rows key number j k u i₀ i = u + 1 - i
 
 -- src/firing.rt:50:9
 all-land-requires : tie.Need-all-land-requires Inv-loop μ-loop

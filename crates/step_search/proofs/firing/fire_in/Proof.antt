@@ -9,10 +9,10 @@ use Rattle.step_search.proofs.firing.fire_in.Statement.{statement}
 use Rattle.step_search.proofs.firing.fire_in.Tie as tie
 
 abbrev Inv-loop : tie.InvT-loop
-Inv-loop part keys asked lines u rest₀ number₀ rest number = Walking part keys asked u number rest
+Inv-loop part keys asked rows u rest₀ number₀ rest number = Walking part keys asked u number rest
 
 abbrev μ-loop : tie.MeasureT-loop
-μ-loop part keys asked lines u rest₀ number₀ rest number = keys - number
+μ-loop part keys asked rows u rest₀ number₀ rest number = keys - number
 
 -- src/firing.rt:112:5
 loop-holds : tie.Need-loop-holds Inv-loop μ-loop

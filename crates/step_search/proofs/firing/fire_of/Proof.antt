@@ -9,10 +9,10 @@ use Rattle.step_search.proofs.firing.fire_of.Statement.{statement}
 use Rattle.step_search.proofs.firing.fire_of.Tie as tie
 
 abbrev Inv-loop : tie.InvT-loop
-Inv-loop asked lines key number u below n from₀ j₀ from j = Sweeping (keyIn asked) (keyIn key) u below n j from
+Inv-loop asked rows key number u below n from₀ j₀ from j = Sweeping (keyIn asked) (keyIn key) u below n j from
 
 abbrev μ-loop : tie.MeasureT-loop
-μ-loop asked lines key number u below n from₀ j₀ from j = n - j
+μ-loop asked rows key number u below n from₀ j₀ from j = n - j
 
 -- src/firing.rt:90:17
 chain-end-requires : tie.Need-chain-end-requires Inv-loop μ-loop

@@ -8,14 +8,14 @@ use Rattle.step_search.proofs.firing.fire_on.Statement.{statement}
 use Rattle.step_search.proofs.firing.fire_on.Tie as tie
 
 abbrev Inv-loop : tie.InvT-loop
-Inv-loop asked lines key number j from u end k₀ k = Trying (keyIn asked) (keyIn key) u j from end k
+Inv-loop asked rows key number j from u end k₀ k = Trying (keyIn asked) (keyIn key) u j from end k
 
 abbrev μ-loop : tie.MeasureT-loop
-μ-loop asked lines key number j from u end k₀ k = end + 1 - k
+μ-loop asked rows key number j from u end k₀ k = end + 1 - k
 
 -- src/firing.rt:73:15
-line-requires : tie.Need-line-requires Inv-loop μ-loop
-line-requires c κs = search branch-has
+row-requires : tie.Need-row-requires Inv-loop μ-loop
+row-requires c κs = search branch-has
 
 -- src/firing.rt:75:5
 loop-holds : tie.Need-loop-holds Inv-loop μ-loop
@@ -58,7 +58,7 @@ fire-on-spec =
     (tie.spec
     Inv-loop
     μ-loop
-    line-requires
+    row-requires
     loop-holds
     fire-at-requires
     enum-known-found

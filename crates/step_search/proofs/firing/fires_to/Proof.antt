@@ -8,8 +8,8 @@ use Rattle.step_search.proofs.firing.fires_to.Statement.{statement}
 use Rattle.step_search.proofs.firing.fires_to.Tie as tie
 
 -- src/firing.rt:38:9
-line-requires : tie.Need-line-requires
-line-requires c κs = search needs
+row-requires : tie.Need-row-requires
+row-requires c κs = search needs
 
 -- src/firing.rt:39:16
 sub-member : tie.Need-sub-member
@@ -21,7 +21,7 @@ part-member-start c = search needs
 
 -- src/firing.rt:39:16
 part-member-end : tie.Need-part-member-end
-part-member-end c = omega (arith, part-within (c .before .before .before .pre) (c .line .ensures))
+part-member-end c = omega (arith, part-within (c .before .before .before .pre) (c .row .ensures))
 
 -- src/firing.rt:39:32
 target-requires : tie.Need-target-requires
@@ -37,7 +37,7 @@ returns c = search target-not
 
 -- src/firing.rt:42:12
 slice-aggregate-member : tie.Need-slice-aggregate-member
-slice-aggregate-member c = sym (length-take-le _ _ (omega (arith, part-within (c .before .before .before .before .before .before .before .before .pre) (c .before .before .before .before .before .line .ensures), c .before .before .before .before .before .before .before .before .pre .above)))
+slice-aggregate-member c = sym (length-take-le _ _ (omega (arith, part-within (c .before .before .before .before .before .before .before .before .pre) (c .before .before .before .before .before .row .ensures), c .before .before .before .before .before .before .before .before .pre .above)))
 
 -- src/firing.rt:42:27
 context-requires : tie.Need-context-requires
@@ -49,13 +49,13 @@ member-requires-2 c κs = search needs
 
 -- src/firing.rt:34:1
 returns-2 : tie.Need-returns-2
-returns-2 c = context-last (c .before .before .before .before .before .before .before .before .before .before .pre) (c .before .before .before .before .before .before .before .line .ensures) (c .before .before .before .before .before .target .ensures) (c .before .before .before .before .member .ensures) (c .before .before .before .if1 .left) (c .before .context .ensures) (c .member2 .ensures)
+returns-2 c = context-last (c .before .before .before .before .before .before .before .before .before .before .pre) (c .before .before .before .before .before .before .before .row .ensures) (c .before .before .before .before .before .target .ensures) (c .before .before .before .before .member .ensures) (c .before .before .before .if1 .left) (c .before .context .ensures) (c .member2 .ensures)
 
 pub fires-to-spec : {M : Type 1} → statement M
 fires-to-spec =
     tie.close
     (tie.spec
-    line-requires
+    row-requires
     sub-member
     part-member-start
     part-member-end

@@ -9,10 +9,10 @@ use Rattle.step_search.proofs.search.find_steps.Statement.{statement}
 use Rattle.step_search.proofs.search.find_steps.Tie as tie
 
 abbrev Inv-loop : tie.InvT-loop
-Inv-loop profile labels keys asked part lines t u₀ count₀ steps₀ u count steps = Taking part keys asked t u count steps
+Inv-loop profile labels keys asked part rows t u₀ count₀ steps₀ u count steps = Taking part keys asked t u count steps
 
 abbrev μ-loop : tie.MeasureT-loop
-μ-loop profile labels keys asked part lines t u₀ count₀ steps₀ u count steps = t - u
+μ-loop profile labels keys asked part rows t u₀ count₀ steps₀ u count steps = t - u
 
 record-at-requires : tie.Need-record-at-requires Inv-loop μ-loop
 record-at-requires c κs = search needs

@@ -1,5 +1,5 @@
 use mathlib.Core.Path.{subst}
-use Rattle.tree_table.specs.Decides.{Decides}
+use Rattle.tree_table.specs.Tells.{Tells}
 use borrow.Author.Needs.{needs}
 use Rattle.tree_equal.proofs.attributes.attributes_eq.Statement.{statement}
 use Rattle.tree_equal.proofs.attributes.attributes_eq.Tie as tie
@@ -19,7 +19,7 @@ pair-off-requires c κs = search needs
 
 -- src/attributes.rt:122:9
 returns : tie.Need-returns
-returns c = let p = c .before .pair-off .ensures in (subst (Decides _) (c .if1 .taken) (p .answer), p .clean (c .if1 .taken))
+returns c = let p = c .before .pair-off .ensures in (subst (Tells _) (c .if1 .taken) (p .answer), p .clean (c .if1 .taken))
 
 -- src/attributes.rt:124:5
 unmark-requires : tie.Need-unmark-requires
@@ -27,7 +27,7 @@ unmark-requires c κs = search needs
 
 -- src/attributes.rt:103:1
 returns-2 : tie.Need-returns-2
-returns-2 c = (subst (Decides _) (c .before .before .if1 .left) (c .before .before .before .pair-off .ensures .answer), c .unmark .ensures)
+returns-2 c = (subst (Tells _) (c .before .before .if1 .left) (c .before .before .before .pair-off .ensures .answer), c .unmark .ensures)
 
 pub attributes-eq-spec : {M : Type 1} → statement M
 attributes-eq-spec =

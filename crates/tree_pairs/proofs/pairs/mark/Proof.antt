@@ -16,7 +16,7 @@ use Rattle.tree_pairs.proofs.pairs.mark.Lts as lts
 use Rattle.tree_pairs.proofs.pairs.stamp.Reads as stamp-reads
 use Rattle.tree_rows.proofs.hung.first_hung.Reads as first-hung-reads
 use Rattle.tree_rows.proofs.hung.next_hung.Reads as next-hung-reads
-use Rattle.tree_rows.proofs.rows.class_of.Reads as class-of-reads
+use Rattle.tree_rows.proofs.rows.family_of.Reads as family-of-reads
 
 abbrev Inv-loop : tie.InvT-loop
 Inv-loop tree classes rows hung body memo₀ i b own y₀ memo y = Hanging classes tree rows hung body × (i < length (keyIn body .paths)) × (b < fileTable tree .size) × (own ≡ 4 * b + i + 1)
@@ -38,8 +38,8 @@ loop-holds : tie.Need-loop-holds Inv-loop μ-loop
 loop-holds c = let p = c .before .before .before .before .pre in let e = c .before .stamp .ensures .0 in (p .0 .0, p .0 .1, p .0 .2, e, p .1, refl, mark-start _ _ (keyIn (c .before .before .before .before .args .body .now) .paths) (p .0 .0 .few) _ _ _ (p .0 .1) e (p .0 .0 .prepared .tree .some) _ _ _ (p .0 .0 .lists .each _ (p .0 .1)) _ _ (p .0 .2) (c .first-hung .ensures .0))
 
 -- src/pairs.rt:52:21
-class-of-requires : tie.Need-class-of-requires Inv-loop μ-loop
-class-of-requires c κs = let i = c .before .loop .inv in let g = i .0 .prepared .tree .few in let y = i .6 .inside in omega arith
+family-of-requires : tie.Need-family-of-requires Inv-loop μ-loop
+family-of-requires c κs = let i = c .before .loop .inv in let g = i .0 .prepared .tree .few in let y = i .6 .inside in omega arith
 
 -- src/pairs.rt:53:31
 cast-memo : tie.Need-cast-memo Inv-loop μ-loop
@@ -55,7 +55,7 @@ mul-memo c = search needs
 
 -- src/pairs.rt:53:9
 element-write-memo : tie.Need-element-write-memo Inv-loop μ-loop
-element-write-memo c = let i = c .before .before .loop .inv in let g = i .0 .prepared .tree .few in let e = c .class-of .ensures .0 in let l = i .0 .prepared .classed .inside (c .before .before .loop .y) (i .6 .inside) in let m = i .4 .long in omega arith
+element-write-memo c = let i = c .before .before .loop .inv in let g = i .0 .prepared .tree .few in let e = c .family-of .ensures .0 in let l = i .0 .prepared .families .inside (c .before .before .loop .y) (i .6 .inside) in let m = i .4 .long in omega arith
 
 -- src/pairs.rt:54:13
 next-hung-requires : tie.Need-next-hung-requires Inv-loop μ-loop
@@ -67,7 +67,7 @@ loop-less c = let i = c .before .before .before .loop .inv in let n : 0 < c .bef
 
 -- src/pairs.rt:51:5
 loop-again : tie.Need-loop-again Inv-loop μ-loop
-loop-again c = let i = c .before .before .before .loop .inv in let n : 0 < c .before .before .before .loop .y = omega arith in let g = i .0 .prepared .tree .few in let e = c .before .class-of .ensures .0 in let l = i .0 .prepared .classed .inside (c .before .before .before .loop .y) (i .6 .inside) in let k : c .before .class-of .result < 4096 = omega arith in
+loop-again c = let i = c .before .before .before .loop .inv in let n : 0 < c .before .before .before .loop .y = omega arith in let g = i .0 .prepared .tree .few in let e = c .before .family-of .ensures .0 in let l = i .0 .prepared .families .inside (c .before .before .before .loop .y) (i .6 .inside) in let k : c .before .family-of .result < 4096 = omega arith in
     (i .0, i .1, i .2, i .3, mark-more _ _ _ (i .0 .few) _ _ _ (i .1) (i .3) (c .before .before .before .loop .memo) _ (c .before .before .before .loop .y) k (i .6 .inside) (hung-down _ _ _ _ _ (i .0 .lists .each _ (i .1)) _ _ (i .2) g n (i .6 .inside) (i .6 .hangs n)) e (i .4), mark-stays _ (c .before .before .before .loop .memo) _ _ (i .5), mark-next _ _ (keyIn (c .before .before .before .before .before .before .before .before .args .body .now) .paths) (i .0 .few) _ _ _ (i .1) (i .3) (i .0 .prepared .tree .some) _ _ _ (i .0 .lists .each _ (i .1)) (c .before .before .before .loop .memo) _ (c .before .before .before .loop .y) _ k (i .4 .long) (i .2) n e (c .next-hung .ensures .0) (i .6))
 
 -- src/pairs.rt:34:1
@@ -83,7 +83,7 @@ mark-spec =
     stamp-requires
     first-hung-requires
     loop-holds
-    class-of-requires
+    family-of-requires
     cast-memo
     add-memo
     mul-memo

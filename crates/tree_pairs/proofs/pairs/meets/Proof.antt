@@ -4,7 +4,7 @@ use native.Mathlib.Omega.{arith}
 use lib.ListN.{length}
 use Rattle.meaning.specs.Records.{keyIn}
 use Rattle.tree_table.specs.FileTable.{fileTable}
-use Rattle.tree_table.specs.Ready.{bytes-tree}
+use Rattle.tree_table.specs.LinkedTree.{bytes-tree}
 use Rattle.tree_table.specs.Seek.{left}
 use Rattle.tree_rows.specs.Rows.{row}
 use Rattle.tree_pairs.specs.Along.{Along, along-falls}
@@ -18,7 +18,7 @@ use Rattle.tree_pairs.proofs.memo.recall.Reads as recall-reads
 use Rattle.tree_pairs.proofs.pairs.stamp.Reads as stamp-reads
 use Rattle.tree_rows.proofs.hung.first_hung.Reads as first-hung-reads
 use Rattle.tree_rows.proofs.hung.next_hung.Reads as next-hung-reads
-use Rattle.tree_rows.proofs.rows.class_of.Reads as class-of-reads
+use Rattle.tree_rows.proofs.rows.family_of.Reads as family-of-reads
 
 abbrev Inv-loop : tie.InvT-loop
 Inv-loop tree classes rows hung body memo i a b wanted x₀ x = Hanging classes tree rows hung body × (i < length (keyIn body .paths)) × (a < b) × (b < fileTable tree .size) × (wanted ≡ 4 * b + i + 1)
@@ -40,17 +40,17 @@ loop-holds : tie.Need-loop-holds Inv-loop μ-loop
 loop-holds c = let p = c .before .before .before .before .pre in let e = c .before .stamp .ensures .0 in (p .0 .0, p .0 .1, p .0 .2, p .0 .3, e, p .1, meet-start _ _ (keyIn (c .before .before .before .before .args .body .now) .paths) (p .0 .0 .few) _ _ _ (p .0 .1) e (p .0 .0 .prepared .tree .some) _ _ _ (p .0 .0 .lists .each _ (p .0 .1)) _ _ _ (let u = p .0 .2 in let v = p .0 .3 in omega arith) (c .first-hung .ensures .0))
 
 -- src/pairs.rt:77:21
-class-of-requires : tie.Need-class-of-requires Inv-loop μ-loop
-class-of-requires c κs = let i = c .before .loop .inv in let g = i .0 .prepared .tree .few in let y = i .6 .inside in omega arith
+family-of-requires : tie.Need-family-of-requires Inv-loop μ-loop
+family-of-requires c κs = let i = c .before .loop .inv in let g = i .0 .prepared .tree .few in let y = i .6 .inside in omega arith
 
 -- src/pairs.rt:78:12
 recall-requires : tie.Need-recall-requires Inv-loop μ-loop
-recall-requires c κs = let i = c .before .before .loop .inv in let g = i .0 .prepared .tree .few in let e = c .class-of .ensures .0 in let l = i .0 .prepared .classed .inside (c .before .before .loop .x) (i .6 .inside) in (omega arith, omega arith)
+recall-requires c κs = let i = c .before .before .loop .inv in let g = i .0 .prepared .tree .few in let e = c .family-of .ensures .0 in let l = i .0 .prepared .families .inside (c .before .before .loop .x) (i .6 .inside) in (omega arith, omega arith)
 
 -- src/pairs.rt:79:13
 returns : tie.Need-returns Inv-loop μ-loop
 returns c = let i = c .before .before .before .before .loop .inv in let n : 0 < c .before .before .before .before .loop .x = (let m = c .before .before .before .loop-test .taken in omega arith) in
-    meet-found _ _ (keyIn (c .before .before .before .before .before .before .before .before .before .args .body .now) .paths) (i .0 .few) _ _ _ (i .1) (i .4) (i .0 .prepared .tree .some) _ _ _ (i .0 .lists .each _ (i .1)) _ (bytes-tree (i .0 .prepared .tree)) (i .0 .prepared .tree .few) (i .0 .prepared .classed) (simple-at _ (i .0 .simples) _ (i .1)) _ (let u = i .2 in let v = i .3 in omega arith) (i .3) _ (c .before .before .before .before .loop .x) (c .before .before .class-of .result) _ n (c .before .before .class-of .ensures .0) (c .before .recall .ensures .0) (c .if1 .taken) (i .5) (i .6)
+    meet-found _ _ (keyIn (c .before .before .before .before .before .before .before .before .before .args .body .now) .paths) (i .0 .few) _ _ _ (i .1) (i .4) (i .0 .prepared .tree .some) _ _ _ (i .0 .lists .each _ (i .1)) _ (bytes-tree (i .0 .prepared .tree)) (i .0 .prepared .tree .few) (i .0 .prepared .families) (simple-at _ (i .0 .simples) _ (i .1)) _ (let u = i .2 in let v = i .3 in omega arith) (i .3) _ (c .before .before .before .before .loop .x) (c .before .before .family-of .result) _ n (c .before .before .family-of .ensures .0) (c .before .recall .ensures .0) (c .if1 .taken) (i .5) (i .6)
 
 -- src/pairs.rt:81:13
 next-hung-requires : tie.Need-next-hung-requires Inv-loop μ-loop
@@ -63,11 +63,11 @@ loop-less c = let i = c .before .before .before .before .before .loop .inv in le
 -- src/pairs.rt:76:5
 loop-again : tie.Need-loop-again Inv-loop μ-loop
 loop-again c = let i = c .before .before .before .before .before .loop .inv in let n : 0 < c .before .before .before .before .before .loop .x = (let m = c .before .before .before .before .loop-test .taken in omega arith) in
-    (i .0, i .1, i .2, i .3, i .4, i .5, meet-next _ _ (keyIn (c .before .before .before .before .before .before .before .before .before .before .args .body .now) .paths) (i .0 .few) _ _ _ (i .1) (i .4) (i .0 .prepared .tree .some) _ _ _ (i .0 .lists .each _ (i .1)) _ _ (c .before .before .before .before .before .loop .x) _ (c .before .before .before .class-of .result) _ (let u = i .2 in let v = i .3 in omega arith) n (c .before .before .before .class-of .ensures .0) (c .before .before .recall .ensures .0) (c .before .if1 .left) (c .next-hung .ensures .0) (i .6))
+    (i .0, i .1, i .2, i .3, i .4, i .5, meet-next _ _ (keyIn (c .before .before .before .before .before .before .before .before .before .before .args .body .now) .paths) (i .0 .few) _ _ _ (i .1) (i .4) (i .0 .prepared .tree .some) _ _ _ (i .0 .lists .each _ (i .1)) _ _ (c .before .before .before .before .before .loop .x) _ (c .before .before .before .family-of .result) _ (let u = i .2 in let v = i .3 in omega arith) n (c .before .before .before .family-of .ensures .0) (c .before .before .recall .ensures .0) (c .before .if1 .left) (c .next-hung .ensures .0) (i .6))
 
 -- src/pairs.rt:59:1
 returns-2 : tie.Need-returns-2 Inv-loop μ-loop
-returns-2 c = let i = c .before .loop .inv in meet-none _ _ (keyIn (c .before .before .before .before .before .before .args .body .now) .paths) (i .0 .few) _ _ _ (i .1) (i .4) (i .0 .prepared .tree .some) _ _ _ (i .0 .lists .each _ (i .1)) _ (bytes-tree (i .0 .prepared .tree)) (i .0 .prepared .tree .few) (i .0 .prepared .classed) (simple-at _ (i .0 .simples) _ (i .1)) _ (let u = i .2 in let v = i .3 in omega arith) (i .3) _ _ (i .2) (c .loop-test .left) (i .5) (i .6)
+returns-2 c = let i = c .before .loop .inv in meet-none _ _ (keyIn (c .before .before .before .before .before .before .args .body .now) .paths) (i .0 .few) _ _ _ (i .1) (i .4) (i .0 .prepared .tree .some) _ _ _ (i .0 .lists .each _ (i .1)) _ (bytes-tree (i .0 .prepared .tree)) (i .0 .prepared .tree .few) (i .0 .prepared .families) (simple-at _ (i .0 .simples) _ (i .1)) _ (let u = i .2 in let v = i .3 in omega arith) (i .3) _ _ (i .2) (c .loop-test .left) (i .5) (i .6)
 
 pub meets-spec : {M : Type 1} → statement M
 meets-spec =
@@ -78,7 +78,7 @@ meets-spec =
     stamp-requires
     first-hung-requires
     loop-holds
-    class-of-requires
+    family-of-requires
     recall-requires
     returns
     next-hung-requires

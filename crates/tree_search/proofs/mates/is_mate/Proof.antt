@@ -1,5 +1,5 @@
 use Rattle.tree_search.specs.Mates.{test-before, test-later, test-apart, test-pairs}
-use Rattle.tree_table.specs.Ready.{bytes-tree}
+use Rattle.tree_table.specs.LinkedTree.{bytes-tree}
 use mathlib.Core.Path.{refl}
 use native.Mathlib.Omega.{arith}
 use borrow.Author.Needs.{needs}

@@ -1,6 +1,6 @@
 use Rattle.tree_search.specs.Start.{lists-of, pivot-few}
 use Rattle.tree_sorted.specs.Hung.{listed-next}
-use Rattle.tree_table.specs.Ready.{bytes-tree}
+use Rattle.tree_table.specs.LinkedTree.{bytes-tree}
 use Rattle.tree_search.specs.Mates.{Mating, Seen, mating-start, mating-next, mating-end, seen-start, seen-end}
 use Rattle.tree_sorted.specs.GoodKey.{good-simple}
 use Rattle.tree_pairs.specs.Marks.{Marked}
@@ -55,7 +55,7 @@ loop-again c = let p = c .before .before .before .before .before .before .before
 -- src/mates.rt:114:1
 returns : tie.Need-returns Inv-loop μ-loop
 returns c = let p = c .before .before .before .before .before .pre in let s = p .0 .0 in let v = c .before .loop .inv in
-    (mating-end _ _ _ _ _ _ _ _ _ _ _ (bytes-tree (s .hanging .prepared .tree)) (s .sorts .within) (good-simple (s .good) _ (s .sorts .within)) (s .hanging .prepared .classed) (s .sorts .grouped) (s .sorts .numbered) (lists-of s) _ _ _ (let e = c .loop-test .left in omega arith) (v .0), v .2, seen-end _ _ _ _ _ _ _ _ (v .1))
+    (mating-end _ _ _ _ _ _ _ _ _ _ _ (bytes-tree (s .hanging .prepared .tree)) (s .sorts .within) (good-simple (s .good) _ (s .sorts .within)) (s .hanging .prepared .families) (s .sorts .grouped) (s .sorts .numbered) (lists-of s) _ _ _ (let e = c .loop-test .left in omega arith) (v .0), v .2, seen-end _ _ _ _ _ _ _ _ (v .1))
 
 pub mate-of-spec : {M : Type 1} → statement M
 mate-of-spec =

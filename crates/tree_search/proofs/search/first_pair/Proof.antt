@@ -2,7 +2,7 @@ use Rattle.tree_search.specs.Mates.{lower-more}
 use Rattle.tree_search.specs.Best.{Best, best-none, best-later, best-unmated, best-better, first-found, first-none}
 use Rattle.tree_search.specs.Mates.{Lower}
 use Rattle.tree_pairs.specs.Marks.{Marked}
-use Rattle.tree_table.specs.Ready.{bytes-tree}
+use Rattle.tree_table.specs.LinkedTree.{bytes-tree}
 use Rattle.tree_table.specs.FileTable.{fileTable, classBy}
 use Rattle.meaning.specs.Records.{keyIn}
 use Rattle.tree_rows.specs.Rows.{row}

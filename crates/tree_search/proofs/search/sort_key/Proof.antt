@@ -1,6 +1,6 @@
 use Rattle.tree_search.specs.Start.{tops-long}
 use Rattle.tree_search.specs.Start.{SpreadTo, grouped-tops, spread-tops, spread-groups, hanging-so, tops-stay}
-use Rattle.tree_table.specs.Ready.{bytes-tree}
+use Rattle.tree_table.specs.LinkedTree.{bytes-tree}
 use mathlib.Core.Path.{subst}
 use borrow.Author.Needs.{needs}
 use Rattle.tree_search.proofs.search.sort_key.Statement.{statement}

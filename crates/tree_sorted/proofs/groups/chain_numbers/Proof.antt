@@ -1,6 +1,6 @@
 use Rattle.tree_sorted.specs.Chains.{number-low}
 use Rattle.tree_sorted.specs.Chains.{ChainStays, chain-start, chain-store, chain-both, chain-none, chain-put, chain-all}
-use Rattle.tree_rows.specs.Chain.{byClass}
+use Rattle.tree_rows.specs.Chain.{byFamily}
 use Rattle.tree_table.specs.Links.{LinkedFrom}
 use Rattle.tree_rows.specs.Rows.{row}
 use Prim.Native.Nat.{_≤_, _<_}
@@ -14,7 +14,7 @@ use Rattle.tree_sorted.proofs.groups.clear_leads.Reads as clear-leads-r
 use Rattle.tree_sorted.proofs.sorted.entry.Reads as entry-reads
 
 abbrev Inv-loop : tie.InvT-loop
-Inv-loop nodes sorted₀ x₀ sorted x = (0 < x) × (x ≤ nodes) × LinkedFrom (byClass nodes (row 8192 sorted₀)) x (row 20480 sorted) (row 12288 sorted) × ChainStays sorted₀ sorted
+Inv-loop nodes sorted₀ x₀ sorted x = (0 < x) × (x ≤ nodes) × LinkedFrom (byFamily nodes (row 8192 sorted₀)) x (row 20480 sorted) (row 12288 sorted) × ChainStays sorted₀ sorted
 
 abbrev μ-loop : tie.MeasureT-loop
 μ-loop nodes sorted₀ x₀ sorted x = x

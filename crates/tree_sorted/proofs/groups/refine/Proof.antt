@@ -1,6 +1,6 @@
 use Rattle.tree_sorted.specs.GoodKey.{good-simple}
 use Rattle.tree_sorted.specs.Chains.{lists-count, refined, grouped-stays, tops-both, tops-of-groups, tops-of-numbers}
-use Rattle.tree_table.specs.Ready.{bytes-tree}
+use Rattle.tree_table.specs.LinkedTree.{bytes-tree}
 use native.Mathlib.Omega.{arith}
 use borrow.Author.Needs.{needs}
 use Rattle.tree_sorted.proofs.groups.refine.Statement.{statement}
@@ -31,7 +31,7 @@ adopt-requires c κs = let p = c .before .before .before .before .before .before
 -- src/groups.rt:110:9
 returns : tie.Need-returns
 returns c = let p = c .before .before .before .before .before .before .before .before .before .before .pre in let e = c .before .before .before .before .before .size .ensures in let f = p .0 .0 .tree .few in let n = c .before .before .before .before .before .before .number-nodes .ensures in let a = c .adopt .ensures in
-    (refined _ _ _ _ _ (bytes-tree (p .0 .0 .tree)) f (p .0 .0 .classed) (p .0 .2) _ (p .1 .0) (good-simple (p .0 .1) _ (p .1 .0)) _ _ _ _ _ e (omega arith) (n .1) (n .0) (a .0) (p .1 .2), tops-both _ _ _ (tops-of-groups _ _ (n .1)) (tops-of-numbers _ _ (a .1)))
+    (refined _ _ _ _ _ (bytes-tree (p .0 .0 .tree)) f (p .0 .0 .families) (p .0 .2) _ (p .1 .0) (good-simple (p .0 .1) _ (p .1 .0)) _ _ _ _ _ e (omega arith) (n .1) (n .0) (a .0) (p .1 .2), tops-both _ _ _ (tops-of-groups _ _ (n .1)) (tops-of-numbers _ _ (a .1)))
 
 -- src/groups.rt:93:1
 returns-2 : tie.Need-returns-2

@@ -1,5 +1,5 @@
 use Rattle.tree_sorted.specs.Chains.{sorted-so, tops-both, tops-of-groups, tops-of-chain}
-use Rattle.tree_table.specs.Ready.{bytes-tree}
+use Rattle.tree_table.specs.LinkedTree.{bytes-tree}
 use native.Mathlib.Omega.{arith}
 use borrow.Author.Needs.{needs}
 use Rattle.tree_sorted.proofs.groups.sort_targets.Statement.{statement}
@@ -30,7 +30,7 @@ chain-numbers-requires c κs = let p = c .before .before .before .before .before
 -- src/groups.rt:181:1
 returns : tie.Need-returns
 returns c = let p = c .before .before .before .before .before .before .before .before .before .pre in let e = c .before .before .size .ensures in let f = p .0 .0 .tree .few in let n = c .before .before .before .number-nodes .ensures in let q = c .before .before .before .before .before .choose-pivot .ensures in let r = c .chain-numbers .ensures in
-    (sorted-so _ _ _ _ _ (bytes-tree (p .0 .0 .tree)) f (p .0 .0 .classed) (p .0 .2) _ (q .0) _ _ _ _ e (n .1) (n .0) (q .1) (r .1) (r .0), tops-both _ _ _ (q .2) (tops-both _ _ _ (tops-of-groups _ _ (n .1)) (tops-of-chain _ _ (r .1))))
+    (sorted-so _ _ _ _ _ (bytes-tree (p .0 .0 .tree)) f (p .0 .0 .families) (p .0 .2) _ (q .0) _ _ _ _ e (n .1) (n .0) (q .1) (r .1) (r .0), tops-both _ _ _ (q .2) (tops-both _ _ _ (tops-of-groups _ _ (n .1)) (tops-of-chain _ _ (r .1))))
 
 pub sort-targets-spec : {M : Type 1} → statement M
 sort-targets-spec =

@@ -1,6 +1,6 @@
 use Rattle.meaning.specs.Trees.{here}
 use Rattle.tree_sorted.specs.Origin.{Climbed, part-end, climbed-step, origin-self, origin-last, origin-root, origin-found, origin-other}
-use Rattle.tree_table.specs.Ready.{parents-smaller}
+use Rattle.tree_table.specs.LinkedTree.{parents-smaller}
 use Rattle.tree_table.specs.FileTable.{fileTable}
 use Rattle.meaning.specs.Paths.{member}
 use lib.ListN.{length, drop, length-set, length-drop}

@@ -2,7 +2,7 @@ use Rattle.write_step.specs.StepLines.{unite-fits, united-yes, united-no
 use Rattle.write_step.specs.Fits.{body-put}
 use borrow.Author.Needs.{needs}
 use Rattle.write_step.proofs.chain.united_set.Statement.{statement}
-use Rattle.theory_derive.specs.Spots.{holdsEmpty}
+use Rattle.theory_pattern.specs.Spots.{holdsEmpty}
 use Rattle.write_step.proofs.chain.united_set.Tie as tie
 
 count-requires : tie.Need-count-requires

@@ -1,5 +1,5 @@
 use Rattle.write_step.specs.StepLines.{chain-united}
-use Rattle.write_step.specs.Parts.{united-bytes}
+use Rattle.write_step.specs.RowKeys.{united-bytes}
 use lib.Seq.{length-take-le}
 use mathlib.Core.Path.{sym}
 use native.Mathlib.Omega.{arith}

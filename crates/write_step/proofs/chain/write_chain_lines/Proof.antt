@@ -1,9 +1,9 @@
 use Rattle.write_step.specs.StepLines.{chain-wrote, chain-wrote-empty}
 use Rattle.write_step.specs.StepFits.{meeting-fits}
-use Rattle.write_step.specs.Parts.{united-fits}
+use Rattle.write_step.specs.RowKeys.{united-fits}
 use borrow.Author.Needs.{needs}
 use Rattle.write_step.proofs.chain.write_chain_lines.Statement.{statement}
-use Rattle.theory_derive.specs.Spots.{holdsEmpty}
+use Rattle.theory_pattern.specs.Spots.{holdsEmpty}
 use Rattle.write_step.proofs.chain.write_chain_lines.Tie as tie
 
 write-meeting-requires : tie.Need-write-meeting-requires

@@ -1,6 +1,6 @@
 use Rattle.theory_derive.specs.Written.{oneLine, twoLine}
 use Rattle.write_step.specs.Lines.{lines-more}
-use Rattle.write_step.specs.Parts.{united-fits}
+use Rattle.write_step.specs.RowKeys.{united-fits}
 use borrow.Author.Needs.{needs}
 use Rattle.write_step.proofs.chain.write_meeting.Statement.{statement}
 use Rattle.write_step.proofs.chain.write_meeting.Tie as tie

@@ -1,4 +1,4 @@
-use Rattle.write_step.specs.Parts.{body-fits, of-body}
+use Rattle.write_step.specs.RowKeys.{body-fits, of-body}
 use borrow.Author.Needs.{needs}
 use Rattle.write_step.proofs.single.write_along.Statement.{statement}
 use Rattle.write_step.proofs.single.write_along.Tie as tie

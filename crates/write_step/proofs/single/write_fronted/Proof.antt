@@ -1,4 +1,4 @@
-use Rattle.write_step.specs.Parts.{fronted-fits, of-set}
+use Rattle.write_step.specs.RowKeys.{fronted-fits, of-set}
 use lib.Seq.{length-take-le}
 use mathlib.Core.Path.{sym}
 use native.Mathlib.Omega.{arith}

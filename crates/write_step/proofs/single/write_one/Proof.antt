@@ -1,5 +1,5 @@
 use Rattle.write_step.specs.Singles.{one-fits, one-in}
-use Rattle.write_step.specs.Parts.{of-set}
+use Rattle.write_step.specs.RowKeys.{of-set}
 use lib.Seq.{length-take-le}
 use mathlib.Core.Path.{sym}
 use native.Mathlib.Omega.{arith}

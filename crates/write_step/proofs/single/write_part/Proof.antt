@@ -1,4 +1,4 @@
-use Rattle.write_step.specs.Parts.{part-fits}
+use Rattle.write_step.specs.RowKeys.{part-fits}
 use Rattle.write_step.specs.Lines.{line-one}
 use lib.Seq.{length-take-le}
 use mathlib.Core.Path.{sym}

@@ -1,5 +1,5 @@
 use Rattle.write_step.specs.Singles.{with-fits, with-in}
-use Rattle.write_step.specs.Parts.{small-fits, of-small}
+use Rattle.write_step.specs.RowKeys.{small-fits, of-small}
 use Rattle.write_step.specs.Fits.{body-put}
 use lib.Seq.{length-take-le}
 use mathlib.Core.Path.{sym}
