@@ -57,23 +57,23 @@ const TREE_CASES: [TreeCase; 16] = [
     // Frames of two ports agree, and no port reaches both; below one port @seq differs.
     ("segment, one key", IN_A_PORT, segment, "kept"),
     // No two elements of a chain have equally many nodes below them.
-    ("chain, {e}", EVERYWHERE, chain, "kept"),
+    ("chain, {.}", EVERYWHERE, chain, "kept"),
     // The tops of the chains are equal, and the root reaches both.
-    ("twin chains, {e}", EVERYWHERE, twin_chains, "broken"),
+    ("twin chains, {.}", EVERYWHERE, twin_chains, "broken"),
     // "some one-to-one pairing": so are the elements with many attributes at their ends.
-    ("fat twin chains, {e}", EVERYWHERE, fat_twin_chains, "broken"),
+    ("fat twin chains, {.}", EVERYWHERE, fat_twin_chains, "broken"),
     // Two teeth without anything below them are equal, and the root reaches both.
-    ("comb of equal teeth, {e}", EVERYWHERE, comb_of_equal, "broken"),
+    ("comb of equal teeth, {.}", EVERYWHERE, comb_of_equal, "broken"),
     // No two teeth are equal, and no two elements have equally many nodes below them.
-    ("comb of different teeth, {e}", EVERYWHERE, comb_of_different, "kept"),
-    ("star of equal leaves, {e}", EVERYWHERE, star_of_equal, "broken"),
-    ("star of different leaves, {e}", EVERYWHERE, star_of_different, "kept"),
+    ("comb of different teeth, {.}", EVERYWHERE, comb_of_different, "kept"),
+    ("star of equal leaves, {.}", EVERYWHERE, star_of_equal, "broken"),
+    ("star of different leaves, {.}", EVERYWHERE, star_of_different, "kept"),
     // All agree on @id and no two on @seq; the root and the attributes themselves have neither.
     ("chain, {@id,@seq}", EQUAL_AND_DIFFERENT, dressed_chain, "kept"),
     ("comb, {@id,@seq}", EQUAL_AND_DIFFERENT, dressed_comb, "kept"),
     ("star, {@id,@seq}", EQUAL_AND_DIFFERENT, dressed_star, "kept"),
     // There is no port.
-    ("broom, {e}", NO_TARGET, broom, "kept"),
+    ("broom, {.}", NO_TARGET, broom, "kept"),
     // No two @seq are equal.
     ("two fans, {@id,@seq}", EQUAL_AND_DIFFERENT, fans, "kept"),
     // All frames agree, and each has a port of its own as its only context.
@@ -154,10 +154,13 @@ fn proofs() -> Vec<Case> {
 
 /// The segment's keys hold for a port wherever it stands, and tell frames apart by @seq in one port alone.
 fn decisions_of_the_segment() -> Vec<Case> {
-    let decide = |asked, wanted| {
-        Case::new(Operation::Decide, format!("64 keys of the segment, {}", asked), [segment_profile(), question(asked), vec![]], wanted)
+    let decide = |typed, asked, wanted| {
+        Case::new(Operation::Decide, format!("64 keys of the segment, {}", typed), [segment_profile(), question(asked), vec![]], wanted)
     };
-    vec![decide(BELOW_A_RUN, "implied"), decide(IN_THE_TREE, "not implied")]
+    vec![
+        decide("(run.port, (frame, {@seq}))", BELOW_A_RUN, "implied"),
+        decide("(., (port.frame, {@seq}))", IN_THE_TREE, "not implied"),
+    ]
 }
 
 fn decisions() -> Vec<Case> {

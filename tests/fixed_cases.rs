@@ -5,6 +5,7 @@
 //!                              is a case whose expectation is changed, which has to be seen
 //! fixed_cases self [LINE]      holds the reference to the same expectations; LINE is one of reference::WRONG_LINES, which has to be seen
 //! fixed_cases lines            how many there are
+//! fixed_cases programs FOLDER  the cases that a program answers, as files with the command and what it is to print and to write
 //!
 //! Both name each case that differs and end with the number of cases of each topic; any difference fails. `not here` differs from
 //! every expectation. Of `implied` and of a dropped key the proof goes through the reference's proof check, of `not implied` the tree
@@ -14,6 +15,7 @@ mod reference;
 mod fixed;
 
 use fixed::expectations::{can_fail, changed, meets, Fixed};
+use fixed::programs::write_programs;
 use reference::stream::{answer, write_case, Answer, OPERATIONS, WITH_BYTES};
 use std::collections::BTreeMap;
 use std::io::{Read, Write};
@@ -97,7 +99,7 @@ fn compare(all: &[Fixed], stream: &[u8]) -> bool {
 }
 
 fn usage() -> ! {
-    eprintln!("usage: fixed_cases cases, fixed_cases compare [CASE], fixed_cases self [LINE] or fixed_cases lines");
+    eprintln!("usage: fixed_cases cases | compare [CASE] | self [LINE] | lines | programs FOLDER");
     std::process::exit(2);
 }
 
@@ -141,6 +143,7 @@ fn main() {
             println!("{}", reference::WRONG_LINES.len());
             true
         }
+        ["programs", folder] => write_programs(&all, folder.as_ref()).is_ok(),
         ["self"] => hold_reference(&all),
         ["self", line] => {
             make_wrong(line);

@@ -49,3 +49,21 @@ if "$work/fixed_cases" compare 1 <"$work/fixed_found" >"$work/fixed_wrong"; then
 fi
 [ "$(grep -c '^differs: ' "$work/fixed_wrong")" -eq 1 ] || fail "a wrong expectation makes other cases differ"
 echo "replay: a wrong expectation is caught: $(grep '^differs: ' "$work/fixed_wrong")"
+
+# 3. The programs that have rows of their own: each prints its line, and makes the file that it is to make and no other.
+rows=$work/fixed_programs
+rm -rf "$rows"
+"$work/fixed_cases" programs "$rows" || fail "the rows of the programs are not written"
+count=0
+for row in "$rows"/*; do
+    # The names of the files have no spaces.
+    tests/run_program.sh $(cat "$row/command") >"$row/found" || true
+    cmp -s "$row/says" "$row/found" || fail "$(cat "$row/name"): $(cat "$row/command") prints: $(head -c 400 "$row/found")"
+    if [ -f "$row/wanted" ]; then
+        cmp "$row/wanted" "$row/out" || fail "$(cat "$row/name"): $(cat "$row/command") writes other bytes"
+    elif [ -e "$row/out" ]; then
+        fail "$(cat "$row/name"): $(cat "$row/command") makes a file"
+    fi
+    count=$((count + 1))
+done
+echo "programs: $count rows printed and written as wanted"

@@ -35,6 +35,8 @@ rows=$(grep -c ' accepted ' "$work/table") || true
 [ "$rows" -eq 13 ] || fail "$rows rows, not 13"
 grep -q '^b    not implied  132 ' "$work/table" || fail "row b is not there"
 grep -q '^m2   implied      30 ' "$work/table" || fail "row m in edition 2 is not there"
+# the keys stand there as a person types them
+grep -qF ' accepted  (port, (frame, {@seq})) | (., (port.frame, {@seq}))' "$work/table" || fail "row b has no typed keys"
 # a wrong expectation is seen: the same examples with row a turned round
 cp -R "$root/examples" "$front" "$work"
 mkdir "$work/target"
@@ -130,6 +132,51 @@ done
 expect 2 "refused 4 1 0$line" lean reduce "$examples/b.question" "$work/not_made"
 expect 2 "refused 4 1 0$line" lean proof "$examples/b.question" 0 "$work/not_made"
 [ ! -e "$work/not_made" ] || fail "a refusal made OUT"
+
+# keys in plain text: OUT ends with a newline, which is not counted; a key of four paths, any-path and text, the labels of edition 2
+written() { printf '%s\n' "$1" | cmp -s - "$work/line" || fail "the line is $(cat "$work/line"), not $1"; }
+expect 0 "text 25$line" text line "$examples/b.profile" "$examples/b.question" "$work/line"
+written '(., (port.frame, {@seq}))'
+printf '\020\000\002\000\000\001\002\004\000\001\003\001\007\002\004\005' >"$work/four"
+expect 0 "text 40$line" text line "$examples/b.profile" "$work/four" "$work/line"
+written '(., (run, {., port, @seq, frame.stamp}))'
+printf '\015\000\002\000\001\000\003\003\000\004\001\001\001' >"$work/any"
+expect 0 "text 26$line" text line "$examples/b.profile" "$work/any" "$work/line"
+written '(_*, (port._*.frame, {#}))'
+expect 0 "text 18$line" text line "$examples/m2.profile" "$examples/m2.question" "$work/line"
+written '(port, (@id, {.}))'
+# and read back, with the newline or without it, as the question's own record; key paths in another order are put into record order
+spell() { printf "$1" >"$work/spelled"; }
+expect 0 "text 25$line" text line "$examples/b.profile" "$examples/b.question" "$work/line"
+expect 0 "key 11$line" text key "$examples/b.profile" "$work/line" "$work/key"
+cmp -s "$examples/b.question" "$work/key" || fail "the line of b's question is not read back as its record"
+spell '(., (run, {frame.stamp, @seq, ., port}))'
+expect 0 "key 16$line" text key "$examples/b.profile" "$work/spelled" "$work/key"
+cmp -s "$work/four" "$work/key" || fail "typed paths are not put into record order"
+spell '(port, (@id, {.}))'
+expect 0 "key $(wc -c <"$examples/m2.question" | tr -d ' ')$line" text key "$examples/m2.profile" "$work/spelled" "$work/key"
+cmp -s "$examples/m2.question" "$work/key" || fail "the line of m's question is not read back in edition 2"
+# 17 and 18 before 4, 5 and 6, all with input 2; a second newline is 17
+for row in '17 (port,(frame, {@seq}))' '17 (port, (frame, {@seq}))\n\n' '17 ' '18 (_*._*, (nobody, {.}))' '18 (id, (port, {.}))' \
+    '4 (port, (frame, {_*}))' '4 (_*._*, (port, {}))' '5 (., (., {}))' '5 (@id, (port, {@id, @id}))' '6 (@id, (port, {@id}))'; do
+    spell "${row#* }"
+    expect 2 "refused ${row%% *} 2 0$line" text key "$examples/b.profile" "$work/spelled" "$work/not_made"
+done
+expect 2 "refused 4 1 0$line" text key "$examples/b.question" "$work/spelled" "$work/not_made"
+expect 5 "unreadable $work/none$line" text key "$work/none" "$work/line" "$work/not_made"
+expect 5 "unreadable $work/none$line" text key "$examples/b.profile" "$work/none" "$work/not_made"
+expect 4 "unwritable$line" text key "$examples/b.profile" "$work/line" "$work/no/such/folder"
+expect 2 "refused 1 2 0$line" text line "$examples/b.profile" "$work/empty" "$work/not_made"
+expect 2 "refused 4 2 0$line" text line "$work/empty" "$examples/b.question" "$work/not_made"
+expect 5 "unreadable $work/none$line" text line "$work/none" "$examples/b.question" "$work/not_made"
+expect 5 "unreadable $work/none$line" text line "$examples/b.profile" "$work/none" "$work/not_made"
+expect 4 "unwritable$line" text line "$examples/b.profile" "$examples/b.question" "$work/no/such/folder"
+usage="usage: text key PROFILE LINE OUT | text line PROFILE QUESTION OUT$line"
+expect 3 "$usage" text
+expect 3 "$usage" text line "$examples/b.profile" "$examples/b.question"
+expect 3 "$usage" text key "$examples/b.profile" "$work/line"
+expect 3 "$usage" text neither "$examples/b.profile" "$examples/b.question" "$work/not_made"
+[ ! -e "$work/not_made" ] || fail "a refusal or a wrong call made OUT"
 
 # trimmed proofs: nine lines become two, and stay when they are trimmed again
 "$front" decide "$examples/a.profile" "$examples/a.question" "$work/long" >"$work/said"

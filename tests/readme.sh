@@ -34,5 +34,5 @@ run() {
     echo "readme: $((n - 1)) commands print what $page says"
 }
 
-run README.md 25
-run docs/FROM-TRACE-TO-ANSWER.md 15
+run README.md 40
+run docs/FROM-TRACE-TO-ANSWER.md 20

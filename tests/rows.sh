@@ -1,7 +1,7 @@
 #!/bin/sh
 # Holds examples/ROW.profile and examples/ROW.question, and a profile that stands there alone, to examples/rows.txt: the records are made again from
 # what a reader sees there, and every byte is compared. No other profile or question may stand beside them, and a changed row has to be
-# seen.
+# seen. The program `text` has to read every key that stands there as its record, and to write every asked key as it stands there.
 set -eu
 root=$(CDPATH='' cd -- "$(dirname -- "$0")/.." && pwd)
 work=$(mktemp -d)
@@ -22,7 +22,7 @@ records() {
         }
         function wrong(what) { print "rows.txt, line " NR ": " what; failed = 1; exit 1 }
         function path(text,    part, n, i, out) {
-            if (text == "e") return " 00"
+            if (text == ".") return " 00"
             n = split(text, part, ".")
             out = byte(n)
             for (i = 1; i <= n; i++) out = out byte(symbol(part[i]))
@@ -96,3 +96,50 @@ if cmp -s "$work/changed" "$work/found"; then
     exit 1
 fi
 echo "rows: $(wc -l <"$work/found") files are the records of rows.txt"
+
+wrong() {
+    echo "rows: $*" >&2
+    exit 1
+}
+
+# text WORD PROFILE IN OUT: the program, held to the first word of its answer
+text() {
+    wanted=$1
+    [ "$1" = key ] || wanted=text
+    said=$("$root/tests/run_program.sh" text "$@" </dev/null)
+    case $said in "$wanted "*) ;; *) wrong "text $*: $said" ;; esac
+}
+
+# keys NAME KEYS: the keys of a profile, read by the program one by one, are the last bytes of the profile
+keys() {
+    : >"$work/keys"
+    printf '%s\n' "$2" | sed 's/, edition 2$//; s/)), /))\n/g' >"$work/lines"
+    while read -r typed; do
+        [ "$typed" != none ] || continue
+        printf '%s\n' "$typed" >"$work/line"
+        text key "$root/examples/$1.profile" "$work/line" "$work/key"
+        cat "$work/key" >>"$work/keys"
+        read_keys=$((read_keys + 1))
+    done <"$work/lines"
+    tail -c "$(wc -c <"$work/keys")" "$root/examples/$1.profile" | cmp - "$work/keys" || wrong "$1: text reads other keys"
+}
+
+# question NAME KEY: read it is the question's record, and that record is written as this line
+question() {
+    printf '%s\n' "$2" >"$work/line"
+    text key "$root/examples/$1.profile" "$work/line" "$work/key"
+    cmp "$root/examples/$1.question" "$work/key" || wrong "$1: text reads another question"
+    text line "$root/examples/$1.profile" "$root/examples/$1.question" "$work/written"
+    cmp "$work/line" "$work/written" || wrong "$1: text writes the question otherwise"
+    read_keys=$((read_keys + 1))
+}
+
+tab=$(printf '\t')
+read_keys=0
+sed -n 's/^# \([a-z]*\)\.profile\t/\1\t-\t/; /^[^#]/p' "$root/examples/rows.txt" >"$work/typed"
+while IFS=$tab read -r row said profile asked; do
+    keys "$row" "$profile"
+    [ -z "$asked" ] || question "$row" "$asked"
+done <"$work/typed"
+[ "$read_keys" -ge 27 ] || wrong "only $read_keys keys were read"
+echo "rows: text reads and writes the $read_keys keys of rows.txt"

@@ -330,13 +330,13 @@ fn cases() -> Vec<Case> {
         // Frames of two ports agree, and no port reaches both; below one port @seq differs.
         kept("segment, one key", "(port,(frame,{@seq}))", segment),
         // No two elements of a chain have equally many nodes below them.
-        kept("chain, {e}", EVERYWHERE, chain),
+        kept("chain, {.}", EVERYWHERE, chain),
         // Two teeth without anything below them are equal, and the root reaches both.
-        broken("comb of equal teeth, {e}", EVERYWHERE, |n| comb(n, PORT, false), |_| [0, 2, 4, 2, 4]),
+        broken("comb of equal teeth, {.}", EVERYWHERE, |n| comb(n, PORT, false), |_| [0, 2, 4, 2, 4]),
         // No two teeth are equal, and no two elements have equally many nodes below them.
-        kept("comb of different teeth, {e}", EVERYWHERE, |n| comb(n, SEQ, true)),
-        broken("star of equal leaves, {e}", EVERYWHERE, |n| star(n, PORT, false), |_| [0, 1, 2, 1, 2]),
-        kept("star of different leaves, {e}", EVERYWHERE, |n| star(n, SEQ, true)),
+        kept("comb of different teeth, {.}", EVERYWHERE, |n| comb(n, SEQ, true)),
+        broken("star of equal leaves, {.}", EVERYWHERE, |n| star(n, PORT, false), |_| [0, 1, 2, 1, 2]),
+        kept("star of different leaves, {.}", EVERYWHERE, |n| star(n, SEQ, true)),
         // All agree on @id and no two on @seq; the root and the attributes themselves have neither.
         kept("chain, equal and different", EQUAL_AND_DIFFERENT, dressed_chain),
         kept("comb, equal and different", EQUAL_AND_DIFFERENT, dressed_comb),
@@ -356,7 +356,7 @@ fn cases() -> Vec<Case> {
         kept("halves, equal and different", EQUAL_AND_DIFFERENT, shared_by_half),
         // "Elements and text keep their order": no two chains have their texts in one order, and no two elements of a chain have equally
         // many nodes below them.
-        kept("chains of other orders, {e}", "(_*,(_*.run,{e}))", orders),
+        kept("chains of other orders, {.}", "(_*,(_*.run,{e}))", orders),
         // "some one-to-one pairing": the two elements with many attributes are equal, and so are the chains over them. The root reaches the two
         // uppermost; the second stands behind all of the first's chain and attributes.
         broken("twin chains over one fat element", "(e,(run,{e}))", fat_twin_chains, |n| of_runs(2 * ((n - 1) / 4) + 1)),

@@ -8,8 +8,10 @@ use crate::reference::records::*;
 use crate::reference::reduce::{is_implied, reduction, without};
 use crate::reference::refute::search;
 use crate::reference::rules::follows;
+use crate::reference::text::{print_typed, read_typed};
 use crate::reference::trees::Tree;
 use crate::reference::trim::premises;
+use crate::reference::typing::typed_line;
 use std::collections::BTreeMap;
 
 const DERIVED_LINES: usize = 6;
@@ -21,12 +23,14 @@ const QUESTIONS_TO_A_FIND: usize = 10;
 /// Of so many questions' profiles one key at least has to be dropped.
 const QUESTIONS_TO_A_DROPPED_KEY: usize = 2;
 
-/// What was compared: first witnesses, proofs that trimming made shorter, keys that reducing dropped.
+/// What was compared: first witnesses, proofs that trimming made shorter, keys that reducing dropped, lines that were and were not read.
 #[derive(Default)]
 struct Finds {
     witnesses: usize,
     shorter: usize,
     dropped: usize,
+    lines: usize,
+    no_lines: usize,
 }
 
 pub fn is_consistent(seed: u64, count: usize) -> bool {
@@ -39,6 +43,7 @@ pub fn is_consistent(seed: u64, count: usize) -> bool {
         let found = trees_and_lines(&mut random, &asked, &mut finds)
             .and_then(|_| trimming(&mut random, &asked, &mut finds))
             .and_then(|_| lean_profile(&mut random, &asked, &mut finds.dropped))
+            .and_then(|_| plain_text(&mut random, &asked, &mut finds))
             .and_then(|_| decision(&mut random, &asked));
         if let Err(fault) = &found {
             failed += 1;
@@ -47,13 +52,14 @@ pub fn is_consistent(seed: u64, count: usize) -> bool {
         *counts.entry(found.unwrap_or_else(|fault| fault)).or_insert(0) += 1;
     }
     let list: Vec<String> = counts.iter().map(|(name, count)| format!("{} {}", name, count)).collect();
-    let Finds { witnesses, shorter, dropped } = finds;
+    let Finds { witnesses, shorter, dropped, lines, no_lines } = finds;
     println!("the reference itself: {} questions, {} fail: {}", count, failed, list.join(" · "));
     println!(
-        "the reference itself: {} first witnesses, {} proofs made shorter, {} dropped keys",
-        witnesses, shorter, dropped
+        "the reference itself: {} first witnesses, {} proofs made shorter, {} dropped keys, {} typed lines and {} that are none",
+        witnesses, shorter, dropped, lines, no_lines
     );
-    failed == 0 && witnesses.min(shorter) >= count / QUESTIONS_TO_A_FIND && dropped >= count / QUESTIONS_TO_A_DROPPED_KEY
+    let fewest = [witnesses, shorter, lines, no_lines].into_iter().min();
+    failed == 0 && fewest >= Some(count / QUESTIONS_TO_A_FIND) && dropped >= count / QUESTIONS_TO_A_DROPPED_KEY
 }
 
 /// Rewriting changes nothing, a written tree is read, value equality by numbers, the fast tree test and the fast search for the first
@@ -126,6 +132,35 @@ fn lean_profile(random: &mut Random, asked: &Asked, count: &mut usize) -> Result
     let keeps = |profile: &Profile| profile.keys.iter().all(|key| table.keeps(key));
     if keeps(&profile) != keeps(&reduced) {
         return Err("a tree tells the reduced profile from the old one".to_string());
+    }
+    Ok(())
+}
+
+/// 02, request 1: "17 refuses exactly what is not one of its lines, a line has one reading, and what is written reads back as the same
+/// key": what a line says, printed, is that line, and what is refused by 17 alone has no reading. A line of a key, its paths in any order,
+/// is written again as the key's own line.
+fn plain_text(random: &mut Random, asked: &Asked, finds: &mut Finds) -> Result<(), String> {
+    let (profile, question) = (write_profile(&asked.profile), key_record(&asked.question));
+    let line = write_line(&profile, &question, ANSWER_BYTES).map_err(|_| "a good question is not written".to_string())?;
+    if read_line(&profile, &line, ANSWER_BYTES) != Ok(question) {
+        return Err("what is written does not read back".to_string());
+    }
+    let typed = typed_line(random, &asked.profile.labels, &asked.question);
+    let (reading, answer) = (read_typed(&typed), read_line(&profile, &typed, ANSWER_BYTES));
+    let is_refused_by_17 = answer == refuse(17, QUESTION, 0);
+    finds.lines += reading.is_some() as usize;
+    finds.no_lines += reading.is_none() as usize;
+    if reading.is_none() != is_refused_by_17 {
+        return Err("17 refuses a line, or not what is none".to_string());
+    }
+    if reading.map_or(false, |key| print_typed(&key) != typed) {
+        return Err("a line is read as another line".to_string());
+    }
+    if let Ok(record) = answer {
+        let again = write_line(&profile, &record, ANSWER_BYTES);
+        if again.and_then(|line| read_line(&profile, &line, ANSWER_BYTES)) != Ok(record) {
+            return Err("a typed line's key does not read back".to_string());
+        }
     }
     Ok(())
 }

@@ -5,7 +5,8 @@ use std::collections::BTreeMap;
 
 /// The operations that the program `replay` has: each of their cases is compared. Those of another
 /// operation may all be answered `not here`; they are counted apart and compared with nothing.
-pub const PRESENT: [u8; 11] = [REWRITE, BODY, INCLUDE, KEEP, CHECK_PROOF, CHECK_TREE, DECIDE, LIST, REDUCE, DROPPED_PROOF, TRIM];
+pub const PRESENT: [u8; 13] =
+    [REWRITE, BODY, INCLUDE, KEEP, CHECK_PROOF, CHECK_TREE, DECIDE, LIST, READ_LINE, WRITE_LINE, REDUCE, DROPPED_PROOF, TRIM];
 pub const NOT_HERE: &str = "not here";
 
 /// A run of so many cases has to meet the minimums; a shorter one only prints what it saw.
@@ -15,7 +16,10 @@ pub const WHOLE_RUN: usize = 200_000;
 pub const LEAST: usize = 10_000;
 /// The operations of request 3 search once for each key: fewer of them.
 const LEAST_REDUCED: usize = 1_000;
-const VERDICTS: [(u8, &str); 16] = [
+/// So many lines are read, and so many refused by each number that request 1 adds.
+const LEAST_LINES: usize = 20_000;
+const LEAST_LINES_REFUSED: usize = 1_000;
+const VERDICTS: [(u8, &str); 18] = [
     (REWRITE, "rewritten"),
     (BODY, "body"),
     (INCLUDE, "included"),
@@ -27,6 +31,8 @@ const VERDICTS: [(u8, &str); 16] = [
     (DECIDE, "implied"),
     (DECIDE, "not implied"),
     (LIST, "listed"),
+    (READ_LINE, "key"),
+    (WRITE_LINE, "text"),
     (REDUCE, "reduced"),
     (REDUCE, "reduced none"),
     (DROPPED_PROOF, "proof"),
@@ -36,14 +42,15 @@ const VERDICTS: [(u8, &str); 16] = [
 
 /// Every refusal that an operation can give, by input and numbers (01, "Refusal numbers"). Each has to be
 /// seen, and no other: 11 is retired, a body lookup refuses nothing, 7 never has input 2.
-const REFUSALS: [(&[u8], u32, &[u32]); 9] = [
-    (&[REWRITE, DECIDE, LIST, REDUCE, DROPPED_PROOF, TRIM], ANSWER, &[14]),
+const REFUSALS: [(&[u8], u32, &[u32]); 10] = [
+    (&[REWRITE, DECIDE, LIST, READ_LINE, WRITE_LINE, REDUCE, DROPPED_PROOF, TRIM], ANSWER, &[14]),
     (
-        &[REWRITE, INCLUDE, KEEP, CHECK_PROOF, CHECK_TREE, DECIDE, LIST, REDUCE, DROPPED_PROOF, TRIM],
+        &[REWRITE, INCLUDE, KEEP, CHECK_PROOF, CHECK_TREE, DECIDE, LIST, READ_LINE, WRITE_LINE, REDUCE, DROPPED_PROOF, TRIM],
         PROFILE,
         &[1, 2, 3, 4, 5, 6, 7, 15],
     ),
-    (&[KEEP, CHECK_PROOF, CHECK_TREE, DECIDE, TRIM], QUESTION, &[1, 2, 4, 5, 6]),
+    (&[KEEP, CHECK_PROOF, CHECK_TREE, DECIDE, WRITE_LINE, TRIM], QUESTION, &[1, 2, 4, 5, 6]),
+    (&[READ_LINE], QUESTION, &[4, 5, 6, 17, 18]),
     (&[INCLUDE], QUESTION, &[4, 6]),
     (&[INCLUDE], TREE_OR_PROOF, &[4, 6]),
     (&[KEEP, CHECK_TREE, LIST], TREE_OR_PROOF, &[1, 2, 7, 8, 16]),
@@ -52,11 +59,19 @@ const REFUSALS: [(&[u8], u32, &[u32]); 9] = [
     (&[CHECK_TREE], TREE_OR_PROOF, &[13]),
 ];
 
-/// How often an operation, and each verdict of it, has to be seen.
+/// How often each verdict of an operation has to be seen.
 fn least(operation: u8) -> usize {
     match operation {
         REDUCE | DROPPED_PROOF => LEAST_REDUCED,
         _ => LEAST,
+    }
+}
+
+/// How many cases of an operation there have to be.
+fn least_cases(operation: u8) -> usize {
+    match operation {
+        READ_LINE => LEAST_LINES,
+        _ => least(operation),
     }
 }
 
@@ -87,6 +102,9 @@ fn minimums() -> BTreeMap<(u8, String), usize> {
         for (&operation, number) in operations.iter().flat_map(|each| numbers.iter().map(move |number| (each, number))) {
             all.insert((operation, format!("refused {} {}", number, input)), 1);
         }
+    }
+    for number in [17, 18] {
+        all.insert((READ_LINE, format!("refused {} {}", number, QUESTION)), LEAST_LINES_REFUSED);
     }
     all.retain(|outcome, _| PRESENT.contains(&outcome.0));
     all
@@ -151,8 +169,8 @@ impl Tally {
                 all.push(format!("{} {}: 01 has no such refusal", OPERATIONS[outcome.0 as usize], outcome.1));
             }
         }
-        for &operation in PRESENT.iter().filter(|&&each| self.agreeing[each as usize] < least(each)) {
-            all.push(format!("{}: fewer than {} cases", OPERATIONS[operation as usize], least(operation)));
+        for &operation in PRESENT.iter().filter(|&&each| self.agreeing[each as usize] < least_cases(each)) {
+            all.push(format!("{}: fewer than {} cases", OPERATIONS[operation as usize], least_cases(operation)));
         }
         all
     }

@@ -64,6 +64,7 @@ fn names(operation: u8) -> [&'static str; 2] {
     match operation {
         INCLUDE => ["path", "other"],
         CHECK_PROOF | TRIM => ["question", "proof"],
+        READ_LINE => ["line", "tree"],
         _ => ["question", "tree"],
     }
 }
@@ -98,6 +99,8 @@ fn commands(folder: &str, case: &Case) -> String {
         CHECK_PROOF => format!("checker proof {} {} {}", profile, second, third),
         CHECK_TREE => format!("checker tree {} {} {}", profile, second, third),
         DECIDE => format!("decide {} {} {}/out", profile, second, folder),
+        READ_LINE => format!("text key {} {} {}/out", profile, second, folder),
+        WRITE_LINE => format!("text line {} {} {}/out", profile, second, folder),
         REDUCE => format!("lean reduce {} {}/out", profile, folder),
         DROPPED_PROOF => format!("lean proof {} {} {}/out", profile, case.number, folder),
         TRIM => format!("trim {} {} {} {}/out", profile, second, third, folder),

@@ -22,6 +22,15 @@ pub struct Fixed {
     pub name: String,
     pub case: Case,
     pub wanted: Wanted,
+    /// Where the program that has the operation is run as well.
+    pub by_program: Option<Printed>,
+}
+
+/// What a program prints, and the bytes of its file OUT; none where it is not to be made.
+#[derive(Clone)]
+pub struct Printed {
+    pub says: Vec<u8>,
+    pub out: Option<Vec<u8>>,
 }
 
 /// The cases of one topic.
@@ -36,7 +45,14 @@ impl Cases {
     }
 
     fn add(&mut self, name: &str, case: Case, wanted: Wanted) {
-        self.all.push(Fixed { topic: self.topic, name: name.to_string(), case, wanted });
+        self.all.push(Fixed { topic: self.topic, name: name.to_string(), case, wanted, by_program: None });
+    }
+
+    /// The case that was put last is answered by its program too.
+    fn also_by_program(&mut self, says: Vec<u8>, out: Option<Vec<u8>>) {
+        if let Some(last) = self.all.last_mut() {
+            last.by_program = Some(Printed { says, out });
+        }
     }
 
     /// A case and the line that it wants: `refused 4 1 3`, `kept`, `implied`, `not implied 132`, .. `broken` and an accepted tree may stand
@@ -59,6 +75,19 @@ impl Cases {
     /// A case that wants these bytes after the word and their number.
     pub fn put_bytes(&mut self, name: &str, case: Case, word: &str, bytes: &[u8]) {
         self.add(name, case, Wanted::Bytes(format!("{} {}", word, bytes.len()), bytes.to_vec()));
+    }
+
+    /// The same two of an operation whose program prints that line; a refusal makes no file.
+    pub fn put_by_program(&mut self, name: &str, case: Case, wanted: &str) {
+        self.put(name, case, wanted);
+        self.also_by_program(format!("{}\n", wanted).into_bytes(), None);
+    }
+
+    /// The bytes are what the program's file OUT has; behind a line stands a newline there.
+    pub fn put_bytes_by_program(&mut self, name: &str, case: Case, word: &str, bytes: &[u8]) {
+        let end: &[u8] = if case.operation == WRITE_LINE { b"\n" } else { b"" };
+        self.put_bytes(name, case, word, bytes);
+        self.also_by_program(format!("{} {}\n", word, bytes.len()).into_bytes(), Some([bytes, end].concat()));
     }
 }
 

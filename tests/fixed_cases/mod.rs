@@ -1,6 +1,7 @@
 //! The fixed cases, by what they are about.
 pub mod expectations;
 pub mod notation;
+pub mod programs;
 
 mod bodies_and_paths;
 mod chains;
@@ -18,6 +19,7 @@ mod order;
 mod profiles;
 mod proofs;
 mod rules;
+mod texts;
 mod trees;
 mod trimmings;
 mod witnesses;
@@ -27,7 +29,7 @@ use expectations::{Cases, Fixed};
 /// All cases; each name is used once, so that a difference names its case.
 pub fn all() -> Vec<Fixed> {
     let mut found = Vec::new();
-    let topics: [(&'static str, &[fn(&mut Cases)]); 9] = [
+    let topics: [(&'static str, &[fn(&mut Cases)]); 10] = [
         ("inputs", &[profiles::put, order::put, nodes::put, lines::put, bodies_and_paths::put, cuts::put]),
         ("trees", &[trees::put, listings::put]),
         ("checks", &[rules::put, proofs::put, counterexamples::put]),
@@ -37,6 +39,7 @@ pub fn all() -> Vec<Fixed> {
         ("witnesses", &[witnesses::put]),
         ("lean profiles", &[lean::put]),
         ("trimmed proofs", &[trimmings::put]),
+        ("keys in plain text", &[texts::put]),
     ];
     for (topic, parts) in topics.iter() {
         let mut cases = Cases::of(topic);

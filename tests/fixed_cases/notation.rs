@@ -203,6 +203,14 @@ pub fn list(profile: &[u8], tree: &[u8], block: u32) -> Case {
     case(LIST, block, [profile, &[], tree])
 }
 
+pub fn read_line(profile: &[u8], line: &[u8]) -> Case {
+    case(READ_LINE, 0, [profile, line, &[]])
+}
+
+pub fn write_line(profile: &[u8], question: &[u8]) -> Case {
+    case(WRITE_LINE, 0, [profile, question, &[]])
+}
+
 pub fn reduce(profile: &[u8]) -> Case {
     case(REDUCE, 0, [profile, &[], &[]])
 }

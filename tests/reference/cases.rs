@@ -7,6 +7,7 @@ use super::paths::*;
 use super::random::Random;
 use super::records::*;
 use super::stream::*;
+use super::typing::typed_line;
 
 const ROOM: u32 = ANSWER_BYTES as u32;
 
@@ -51,6 +52,7 @@ fn fixed_cases() -> Vec<Case> {
     doubled_keys(&mut all);
     many_witnesses(&mut all);
     lean_profiles(&mut all);
+    typed_lines(&mut all);
     all
 }
 
@@ -85,6 +87,7 @@ fn examples(all: &mut Vec<Case>) {
         all.push(case(LIST, &profile, &[], &evidence));
         all.push(case(REWRITE, &profile, &[], &[]));
         all.push(case(REDUCE, &profile, &[], &[]));
+        all.push(case(WRITE_LINE, &profile, &question, &[]));
         for number in 0..10 {
             all.push(Case { number, ..case(BODY, &profile, &[], &[]) });
         }
@@ -181,13 +184,15 @@ fn profile_limits(all: &mut Vec<Case>) {
     for profile in &profiles {
         every_operation(all, profile);
         all.push(Case { number: 1_000, ..case(BODY, profile, &[], &[]) });
-        for operation in [REWRITE, REDUCE, DROPPED_PROOF] {
+        for operation in [REWRITE, READ_LINE, WRITE_LINE, REDUCE, DROPPED_PROOF] {
             all.push(Case { room: ROOM - 1, ..case(operation, profile, &[], &[]) });
         }
     }
     for tail in [&[][..], &[9], &[4, 0, 2, 0], &[4, 0, 9, 0], &[255, 255, 2, 0]] {
-        all.push(case(DECIDE, &base, &[key_record(&key_of(1, 1, &[0])), tail.to_vec()].concat(), &[]));
-        all.push(case(DECIDE, &base, tail, &[]));
+        for operation in [DECIDE, WRITE_LINE] {
+            all.push(case(operation, &base, &[key_record(&key_of(1, 1, &[0])), tail.to_vec()].concat(), &[]));
+            all.push(case(operation, &base, tail, &[]));
+        }
     }
 }
 
@@ -205,6 +210,8 @@ fn every_operation(all: &mut Vec<Case>, profile: &[u8]) {
     all.push(case(CHECK_TREE, profile, &question, &root));
     all.push(case(DECIDE, profile, &key_record(&key_of(1, 1, &[0])), &[]));
     all.push(case(LIST, profile, &[], &root));
+    all.push(case(READ_LINE, profile, b"(L2, (., {.}))", &[]));
+    all.push(case(WRITE_LINE, profile, &question, &[]));
     all.push(case(REDUCE, profile, &[], &[]));
     all.push(case(DROPPED_PROOF, profile, &[], &[]));
     all.push(case(TRIM, profile, &question, &proof));
@@ -480,11 +487,44 @@ fn tenth_rule(all: &mut Vec<Case>, profile: &[u8]) {
     }
 }
 
+/// Lines over the bench labels that the reader accepts.
+const ACCEPTED_LINES: [&str; 8] = [
+    "(port, (frame, {@seq}))",
+    "(port, (frame, {@seq, stamp}))",
+    "(., (., {.}))",
+    "(_*, (port._*.frame, {#}))",
+    "(., (., {stamp, frame, port, run}))",
+    "(., (run, {frame.stamp, @seq, ., port}))",
+    "(#, (., {.}))",
+    "(port.port.port.port.port.port.port.port, (., {.}))",
+];
+/// What each of their bytes is replaced by: the signs of the grammar, and a letter.
+const REPLACED_BY: &[u8] = b".,(){}_*#@ a";
+
+/// Each accepted line cut at each byte, each of its bytes replaced, and a line that is longer than any buffer.
+fn typed_lines(all: &mut Vec<Case>) {
+    let profile = bench_profile_of(FIRST_EDITION, &[]);
+    let mut put = |line: &[u8]| all.push(case(READ_LINE, &profile, line, &[]));
+    for line in ACCEPTED_LINES.map(str::as_bytes) {
+        for at in 0..line.len() {
+            put(&line[..at]);
+            REPLACED_BY.iter().for_each(|&sign| put(&[&line[..at], &[sign], &line[at + 1..]].concat()));
+        }
+        put(line);
+    }
+    for (count, name) in [(9, "port"), (300, "port"), (300, "nobody"), (20_000, "run")] {
+        let path = vec![name; count].join(".");
+        put(format!("({}, (., {{.}}))", path).as_bytes());
+        put(format!("(., (., {{{}}}))", vec![name; count].join(", ")).as_bytes());
+        put(format!("(., (., {{{}, }}))", path).as_bytes());
+    }
+}
+
 type Maker = fn(&mut Random, &Asked) -> Case;
 
-/// How many of 117 random cases each maker makes: as many as give each verdict its minimum
+/// How many random cases of all of them together each maker makes: as many as give each verdict its minimum
 /// (differential/counts.rs), and more where cases that look right go wrong.
-const SHARES: [(usize, Maker); 11] = [
+const SHARES: [(usize, Maker); 13] = [
     (6, rewrite_case),
     (9, body_case),
     (13, include_case),
@@ -496,6 +536,8 @@ const SHARES: [(usize, Maker); 11] = [
     (2, reduce_case),
     (3, dropped_proof_case),
     (9, trim_case),
+    (14, read_line_case),
+    (6, write_line_case),
 ];
 
 fn random_case(random: &mut Random, asked: &Asked) -> Case {
@@ -575,6 +617,20 @@ fn trim_case(random: &mut Random, asked: &Asked) -> Case {
 
 fn decide_case(_: &mut Random, asked: &Asked) -> Case {
     case(DECIDE, &profile_of(asked), &key_record(&asked.question), &[])
+}
+
+/// A line that says the question, or one of the profile's keys, or nearly so.
+fn read_line_case(random: &mut Random, asked: &Asked) -> Case {
+    let key = match asked.profile.keys.len() {
+        0 => &asked.question,
+        keys if random.chance(1, 2) => &asked.profile.keys[random.below(keys)],
+        _ => &asked.question,
+    };
+    case(READ_LINE, &profile_of(asked), &typed_line(random, &asked.profile.labels, key), &[])
+}
+
+fn write_line_case(_: &mut Random, asked: &Asked) -> Case {
+    case(WRITE_LINE, &profile_of(asked), &key_record(&asked.question), &[])
 }
 
 fn reduce_case(random: &mut Random, asked: &Asked) -> Case {

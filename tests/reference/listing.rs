@@ -19,8 +19,12 @@ pub fn lines(nodes: &[Node], classes: &Classes) -> Vec<String> {
 }
 
 /// "Block k is lines 1,024k to 1,024k + 1,023, past the end 0 bytes."
-pub fn block(nodes: &[Node], classes: &Classes, k: u64) -> Vec<u8> {
+pub fn block_of(lines: &[String], k: u64) -> Vec<u8> {
     let size = if wrong(11) { BLOCK_LINES - 1 } else { BLOCK_LINES };
     let from = k.saturating_mul(BLOCK_LINES as u64).min(usize::MAX as u64) as usize;
-    lines(nodes, classes).iter().skip(from).take(size).flat_map(|line| line.bytes()).collect()
+    lines.iter().skip(from).take(size).flat_map(|line| line.bytes()).collect()
+}
+
+pub fn block(nodes: &[Node], classes: &Classes, k: u64) -> Vec<u8> {
+    block_of(&lines(nodes, classes), k)
 }

@@ -4,8 +4,9 @@
 //!
 //! paths: words, joins, validity, inclusion · records: the inputs, checked from the front ·
 //! trees: value equality, keys kept · witness: why a key is broken · rules: proof lines · decide: pattern, verdict, evidence ·
-//! reduce: lean profiles · listing: blocks of lines · trim: shorter proofs · operations: the public operations with all refusals in 01's order ·
-//! generate, damage, derivations: random and damaged inputs · refute: trees against an implied question ·
+//! reduce: lean profiles · listing: blocks of lines · trim: shorter proofs · text: keys in plain text ·
+//! operations: the public operations with all refusals in 01's order ·
+//! generate, damage, derivations, typing: random and damaged inputs · refute: trees against an implied question ·
 //! cases, stream: the cases of a run and their frames.
 #![allow(dead_code)]
 
@@ -25,8 +26,10 @@ pub mod reduce;
 pub mod refute;
 pub mod rules;
 pub mod stream;
+pub mod text;
 pub mod trees;
 pub mod trim;
+pub mod typing;
 pub mod witness;
 
 use self::stream::*;
@@ -38,7 +41,7 @@ static WRONG: AtomicUsize = AtomicUsize::new(0);
 
 /// What each wrong line does, by its number less one, and the operations of whose answers in the
 /// stream of seed 1 it changes some.
-pub const WRONG_LINES: [(&[u8], &str); 25] = [
+pub const WRONG_LINES: [(&[u8], &str); 28] = [
     (
         &[INCLUDE, KEEP, CHECK_PROOF, CHECK_TREE, DECIDE, REDUCE, DROPPED_PROOF, TRIM],
         "membership: an any-path consumes at least one label",
@@ -46,13 +49,13 @@ pub const WRONG_LINES: [(&[u8], &str); 25] = [
     (&[INCLUDE], "inclusion: 201 and 202 are left out of the labels"),
     (&[KEEP, CHECK_TREE], "value equality: attributes and other children are one list"),
     (&[KEEP, CHECK_TREE], "tree test: two targets need only one key path in common"),
-    (&[CHECK_PROOF, DECIDE, TRIM], "rule 8 wants two key paths in the premise"),
+    (&[CHECK_PROOF, DECIDE, DROPPED_PROOF, TRIM], "rule 8 wants two key paths in the premise"),
     (&[CHECK_PROOF, TRIM], "rule 9 does not look at the second premise's context"),
     (&[DECIDE, REDUCE, DROPPED_PROOF], "pattern: with the empty path, t alone is marked and not what lies below"),
     (&[DECIDE], "u is the highest node that leads to q, not the lowest"),
     (&[DECIDE], "second copy: the filler attribute of a marked node keeps its own number"),
     (
-        &[REWRITE, INCLUDE, KEEP, CHECK_PROOF, CHECK_TREE, DECIDE, LIST, REDUCE, DROPPED_PROOF, TRIM],
+        &[REWRITE, INCLUDE, KEEP, CHECK_PROOF, CHECK_TREE, DECIDE, LIST, READ_LINE, WRITE_LINE, REDUCE, DROPPED_PROOF, TRIM],
         "records: 5 is given before 4",
     ),
     (&[LIST], "listing: a block has 1,023 lines"),
@@ -62,9 +65,9 @@ pub const WRONG_LINES: [(&[u8], &str); 25] = [
     (&[KEEP, CHECK_TREE], "value equality: values compared in their low two bytes"),
     (&[CHECK_PROOF, TRIM], "rule 10 in edition 1"),
     (&[KEEP, CHECK_TREE, LIST], "16 only for declared labels: 202 may be repeated"),
-    (&[DECIDE, REDUCE], "pattern of edition 2: an attribute steps to its parent only if that is q"),
+    (&[DECIDE, REDUCE, DROPPED_PROOF], "pattern of edition 2: an attribute steps to its parent only if that is q"),
     (
-        &[REWRITE, BODY, INCLUDE, KEEP, CHECK_PROOF, CHECK_TREE, DECIDE, LIST, REDUCE, DROPPED_PROOF, TRIM],
+        &[REWRITE, BODY, INCLUDE, KEEP, CHECK_PROOF, CHECK_TREE, DECIDE, LIST, READ_LINE, WRITE_LINE, REDUCE, DROPPED_PROOF, TRIM],
         "15 looks at the key before alone",
     ),
     (&[KEEP, CHECK_TREE], "witness: the nearest context"),
@@ -73,6 +76,9 @@ pub const WRONG_LINES: [(&[u8], &str); 25] = [
     (&[TRIM], "trimming: ends at the last line with the question's key"),
     (&[REDUCE, DROPPED_PROOF], "reduction: from the first key to the last"),
     (&[REDUCE, DROPPED_PROOF], "reduction: a key is asked of the kept ones behind it alone, those before it are forgotten"),
+    (&[READ_LINE], "text: 18 before 17"),
+    (&[READ_LINE], "text: the class of a name is not asked"),
+    (&[READ_LINE], "text: paths stay as typed"),
 ];
 
 pub fn choose_wrong_line(number: usize) {

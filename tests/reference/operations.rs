@@ -6,6 +6,7 @@ use super::paths::is_included;
 use super::records::*;
 use super::reduce::{dropped_key, dropped_proof, reduction};
 use super::rules::follows;
+use super::text::{print_typed, read_text, typed_of};
 use super::trees::Tree;
 use super::trim::trimmed;
 use super::witness::Witness;
@@ -157,4 +158,20 @@ pub fn prove_dropped(profile: &[u8], n: usize, answer: usize) -> Result<Vec<u8>,
 pub fn dropped_question(profile: &[u8], n: usize) -> Option<(Vec<u8>, Vec<u8>)> {
     let (reduced, key) = dropped_key(&read_profile(profile).ok()?, n)?;
     Some((write_profile(&reduced), key_record(&key)))
+}
+
+/// The record of the key that a line says (02, request 1): "17 not a line of the grammar, 18 name not in the profile or there with the
+/// other class; they come with input 2 before 4, 17 first".
+pub fn read_line(profile: &[u8], line: &[u8], answer: usize) -> Result<Vec<u8>, Refusal> {
+    check_answer(answer)?;
+    let profile = read_profile(profile)?;
+    let found = read_text(line, &profile).and_then(|key| key_fault(&key, KEY_SIZES, &profile.classes).map_or(Ok(key), Err));
+    found.map(|key| key_record(&key)).or_else(|number| refuse(number, QUESTION, 0))
+}
+
+pub fn write_line(profile: &[u8], question: &[u8], answer: usize) -> Result<Vec<u8>, Refusal> {
+    check_answer(answer)?;
+    let profile = read_profile(profile)?;
+    let key = read_question(question, &profile.classes)?;
+    Ok(print_typed(&typed_of(&profile.labels, &key)))
 }

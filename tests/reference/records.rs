@@ -107,7 +107,7 @@ pub fn value_bytes(kind: u16) -> usize {
 }
 
 /// The kind of the next record, if its 4 head bytes are there.
-fn kind_of(rest: &[u8]) -> Option<u16> {
+pub fn kind_of(rest: &[u8]) -> Option<u16> {
     if rest.len() < 4 {
         None
     } else {
@@ -156,7 +156,7 @@ fn body_fits(kind: u16, body: &[u8]) -> bool {
 }
 
 /// The first record of the rest: kind, body and what follows; none is refusal 1.
-fn first_record(rest: &[u8]) -> Option<(u16, &[u8], &[u8])> {
+pub fn first_record(rest: &[u8]) -> Option<(u16, &[u8], &[u8])> {
     let kind = kind_of(rest)?;
     let length = two(rest, 0) as usize;
     if length < 4 || length > rest.len() {
@@ -177,7 +177,7 @@ fn has_symbol_fault(path: &[u8], longest: usize, classes: &Classes) -> bool {
 }
 
 /// Refusals 4, 5 and 6 of a key.
-fn key_fault(key: &Key, sizes: KeySizes, classes: &Classes) -> Option<u32> {
+pub fn key_fault(key: &Key, sizes: KeySizes, classes: &Classes) -> Option<u32> {
     let in_order = |two: &[Path]| (two[0].len(), &two[0]) < (two[1].len(), &two[1]);
     let four = has_symbol_fault(&key.context, sizes.path, classes)
         || has_symbol_fault(&key.target, sizes.path, classes)
@@ -316,7 +316,7 @@ pub fn read_node(body: &[u8]) -> Node {
 }
 
 /// The kind of all of a tree's records, which is that of record 0, and how many bytes the tree may have.
-fn tree_kind(bytes: &[u8]) -> (u16, usize) {
+pub fn tree_kind(bytes: &[u8]) -> (u16, usize) {
     match kind_of(bytes) {
         Some(WIDE_NODE_KIND) => (WIDE_NODE_KIND, WIDE_TREE_BYTES),
         _ => (NODE_KIND, TREE_BYTES),

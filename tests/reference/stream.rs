@@ -2,7 +2,7 @@
 //!
 //! A frame: operation (1 byte), then, 4 bytes each and little-endian, number (record of a body, block of
 //! a listing, key of a dropped proof), room (size of the answer buffer that is lent), three lengths; then the three inputs:
-//! profile; question or first path; tree, proof or second path.
+//! profile; question, first path or line; tree, proof or second path.
 //!
 //! An answer: a line, the same that the programs print (`refused N I R`, `implied BYTES`, `kept`, `broken Q A B X Y ..`, ..),
 //! with `body BYTES`, `listed BYTES` and `reduced 0,2 BYTES` besides (the numbers of the dropped keys, `-` for none); where it ends in
@@ -20,12 +20,28 @@ pub const CHECK_PROOF: u8 = 5;
 pub const CHECK_TREE: u8 = 6;
 pub const DECIDE: u8 = 7;
 pub const LIST: u8 = 8;
+pub const READ_LINE: u8 = 9;
+pub const WRITE_LINE: u8 = 10;
 pub const REDUCE: u8 = 11;
 pub const DROPPED_PROOF: u8 = 12;
 pub const TRIM: u8 = 13;
 /// By number; one that is not taken has no name.
-pub const OPERATIONS: [&str; 14] =
-    ["", "rewrite", "body", "include", "keep", "proof", "tree", "decide", "list", "", "", "reduce", "dropped proof", "trim"];
+pub const OPERATIONS: [&str; 14] = [
+    "",
+    "rewrite",
+    "body",
+    "include",
+    "keep",
+    "proof",
+    "tree",
+    "decide",
+    "list",
+    "read line",
+    "write line",
+    "reduce",
+    "dropped proof",
+    "trim",
+];
 
 #[derive(Clone)]
 pub struct Case {
@@ -58,7 +74,8 @@ pub fn write_answer(out: &mut dyn Write, answer: &Answer) -> std::io::Result<()>
 }
 
 /// Words of a line that ends in a number of bytes, which follow it.
-pub const WITH_BYTES: [&str; 8] = ["rewritten ", "body ", "listed ", "implied ", "not implied ", "reduced ", "proof ", "trimmed "];
+pub const WITH_BYTES: [&str; 10] =
+    ["rewritten ", "body ", "listed ", "implied ", "not implied ", "reduced ", "proof ", "trimmed ", "key ", "text "];
 
 /// The next answer of a stream; none where it ends or breaks off.
 pub fn read_answer(stream: &mut dyn BufRead) -> Option<Answer> {
@@ -126,6 +143,8 @@ pub fn answer(case: &Case) -> Answer {
         CHECK_PROOF => check_proof(a, b, c).map(|_| word("accepted")),
         CHECK_TREE => Ok(countered(check_counterexample(a, b, c))),
         LIST => list(a, c, number as u64, room).map(|bytes| with_bytes("listed", bytes)),
+        READ_LINE => read_line(a, b, room).map(|bytes| with_bytes("key", bytes)),
+        WRITE_LINE => write_line(a, b, room).map(|bytes| with_bytes("text", bytes)),
         REDUCE => reduce(a, room).map(with_dropped),
         DROPPED_PROOF => prove_dropped(a, number as usize, room).map(|bytes| with_bytes("proof", bytes)),
         TRIM => trim(a, b, c, room).map(|bytes| with_bytes("trimmed", bytes)),

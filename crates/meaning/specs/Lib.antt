@@ -12,3 +12,4 @@ pub mod Listing
 pub mod Operations
 pub mod Reduction
 pub mod Trimming
+pub mod Text

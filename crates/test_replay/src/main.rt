@@ -44,6 +44,10 @@ const DECIDE: u8 = 7;
 
 const LIST: u8 = 8;
 
+const READ_LINE: u8 = 9;
+
+const WRITE_LINE: u8 = 10;
+
 const REDUCE: u8 = 11;
 
 const DROPPED_PROOF: u8 = 12;
@@ -136,6 +140,14 @@ fn reduce(profile: &[u8], answer: &mut [u8]) {
 
 // The operations of 02 that fill an answer buffer: one `if` for each.
 fn answer_request(case: Case, first: &[u8], second: &[u8], third: &[u8], answer: &mut [u8]) {
+    if case.operation == READ_LINE {
+        let read = op_read_line::read_line(first, second, answer);
+        return filling(b"key", read, answer);
+    }
+    if case.operation == WRITE_LINE {
+        let written = op_write_line::write_line(first, second, answer);
+        return filling(b"text", written, answer);
+    }
     if case.operation == REDUCE {
         return reduce(first, answer);
     }

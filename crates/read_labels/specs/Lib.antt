@@ -1,0 +1,3 @@
+pub mod ProfileLabels
+pub mod Named
+pub mod First

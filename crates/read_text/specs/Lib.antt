@@ -1,0 +1,3 @@
+-- What the cutting of a line says, and its laws.
+pub mod Seeking
+pub mod Cutting

@@ -1,0 +1,3 @@
+-- Paths put into record order in a buffer.
+pub mod Places
+pub mod Inserts
