@@ -190,6 +190,39 @@ expect 4 "unwritable$line" trim "$examples/a.profile" "$examples/a.question" "$w
 expect 3 "usage: trim PROFILE QUESTION PROOF OUT$line" trim "$examples/a.profile" "$examples/a.question" "$work/long"
 [ ! -e "$work/not_made" ] || fail "a refused trimming made OUT"
 
+# salvage: what is left of a damaged file, and the listing; the same again, and a sound file, stay as they are
+damaged=$root/crates/salvage/data
+expect 0 "salvaged 2${line}3 8${line}6 1${line}broken 0 0 1 3 2 4$line" salvage "$damaged/profile.key" "$damaged/tree.key" "$work/left"
+{
+    head -c 27 "$damaged/tree.key"
+    printf '\011\000\003\000\000\000\002\000\000\011\000\003\000\003\000\006\005\000'
+} >"$work/wanted_tree"
+cmp -s "$work/wanted_tree" "$work/left" || fail "what is left has other bytes"
+expect 0 "salvaged 0${line}broken 0 0 1 3 2 4$line" salvage "$damaged/profile.key" "$work/left" "$work/again"
+cmp -s "$work/left" "$work/again" || fail "salvaging again changed the tree"
+expect 0 "salvaged 0$line" salvage "$examples/b.profile" "$work/before" "$work/again"
+cmp -s "$work/before" "$work/again" || fail "salvaging changed a sound tree"
+expect 2 "refused 8 3 0$line" salvage "$damaged/profile.key" "$work/empty" "$work/not_made"
+head -c 36865 /dev/zero >"$work/large"
+expect 2 "refused 7 3 0$line" salvage "$damaged/profile.key" "$work/large" "$work/not_made"
+expect 2 "refused 2 1 0$line" salvage "$damaged/tree.key" "$damaged/tree.key" "$work/not_made"
+[ ! -e "$work/not_made" ] || fail "a refused salvage made OUT"
+expect 4 "unwritable$line" salvage "$damaged/profile.key" "$damaged/tree.key" "$work/no/such/folder"
+expect 3 "usage: salvage PROFILE TREE OUT$line" salvage "$damaged/profile.key" "$damaged/tree.key"
+# a root and as many records of 4 bytes as the larger kind has room for: eleven blocks
+printf '\004\000\143\000' >"$work/four"
+while [ "$(wc -c <"$work/four")" -lt 45044 ]; do
+    cat "$work/four" "$work/four" >"$work/fours"
+    mv "$work/fours" "$work/four"
+done
+{
+    printf '\013\000\005\000\377\377\313\000\000\000\000'
+    head -c 45044 "$work/four"
+    printf '\004'
+} >"$work/many"
+said=$(echo "salvaged 11262" && seq -f '%.0f 2' 1 11261 && echo "11262 1")
+expect 0 "$said$line" salvage "$damaged/profile.key" "$work/many" "$work/again"
+
 # an empty file is empty: no labels, so the question's symbol 3 is unknown
 expect 2 "refused 4 2 0$line" decide "$work/empty" "$examples/b.question" "$work/not_made"
 expect 0 "included$line" profile include "$examples/b.profile" "$work/empty" "$work/empty"
@@ -206,6 +239,8 @@ for name in "$work/no such file" "$work/other folder" ""; do
     expect 5 "$said" checker tree "$examples/b.profile" "$examples/b.question" "$name"
     expect 5 "$said" profile rewrite "$name" "$work/not_made"
     expect 5 "$said" profile body "$name" 6
+    expect 5 "$said" salvage "$name" "$damaged/tree.key" "$work/not_made"
+    expect 5 "$said" salvage "$damaged/profile.key" "$name" "$work/not_made"
     expect 5 "$said" lean reduce "$name" "$work/not_made"
     expect 5 "$said" lean proof "$name" 0 "$work/not_made"
     expect 5 "$said" profile include "$name" "$work/narrow" "$work/wide"

@@ -1,6 +1,7 @@
 //! What 01 promises of the operations together, held on the reference alone.
 use crate::reference::decide::proof;
 use crate::reference::derivations::{derivation, padded};
+use crate::reference::exports::export;
 use crate::reference::generate::*;
 use crate::reference::operations::*;
 use crate::reference::random::Random;
@@ -8,6 +9,7 @@ use crate::reference::records::*;
 use crate::reference::reduce::{is_implied, reduction, without};
 use crate::reference::refute::search;
 use crate::reference::rules::follows;
+use crate::reference::salvage::{outcomes, salvaged, Outcome};
 use crate::reference::text::{print_typed, read_typed};
 use crate::reference::trees::Tree;
 use crate::reference::trim::premises;
@@ -23,7 +25,8 @@ const QUESTIONS_TO_A_FIND: usize = 10;
 /// Of so many questions' profiles one key at least has to be dropped.
 const QUESTIONS_TO_A_DROPPED_KEY: usize = 2;
 
-/// What was compared: first witnesses, proofs that trimming made shorter, keys that reducing dropped, lines that were and were not read.
+/// What was compared: first witnesses, proofs that trimming made shorter, keys that reducing dropped, lines that were and were not read,
+/// exports that were damaged and left something.
 #[derive(Default)]
 struct Finds {
     witnesses: usize,
@@ -31,6 +34,7 @@ struct Finds {
     dropped: usize,
     lines: usize,
     no_lines: usize,
+    salvaged: usize,
 }
 
 pub fn is_consistent(seed: u64, count: usize) -> bool {
@@ -44,6 +48,7 @@ pub fn is_consistent(seed: u64, count: usize) -> bool {
             .and_then(|_| trimming(&mut random, &asked, &mut finds))
             .and_then(|_| lean_profile(&mut random, &asked, &mut finds.dropped))
             .and_then(|_| plain_text(&mut random, &asked, &mut finds))
+            .and_then(|_| salvaging(&mut random, &asked, &mut finds))
             .and_then(|_| decision(&mut random, &asked));
         if let Err(fault) = &found {
             failed += 1;
@@ -52,13 +57,14 @@ pub fn is_consistent(seed: u64, count: usize) -> bool {
         *counts.entry(found.unwrap_or_else(|fault| fault)).or_insert(0) += 1;
     }
     let list: Vec<String> = counts.iter().map(|(name, count)| format!("{} {}", name, count)).collect();
-    let Finds { witnesses, shorter, dropped, lines, no_lines } = finds;
+    let Finds { witnesses, shorter, dropped, lines, no_lines, salvaged } = finds;
     println!("the reference itself: {} questions, {} fail: {}", count, failed, list.join(" · "));
     println!(
-        "the reference itself: {} first witnesses, {} proofs made shorter, {} dropped keys, {} typed lines and {} that are none",
-        witnesses, shorter, dropped, lines, no_lines
+        "the reference itself: {} first witnesses, {} proofs made shorter, {} dropped keys, {} typed lines and {} that are none, {} trees \
+         salvaged",
+        witnesses, shorter, dropped, lines, no_lines, salvaged
     );
-    let fewest = [witnesses, shorter, lines, no_lines].into_iter().min();
+    let fewest = [witnesses, shorter, lines, no_lines, salvaged].into_iter().min();
     failed == 0 && fewest >= Some(count / QUESTIONS_TO_A_FIND) && dropped >= count / QUESTIONS_TO_A_DROPPED_KEY
 }
 
@@ -161,6 +167,42 @@ fn plain_text(random: &mut Random, asked: &Asked, finds: &mut Finds) -> Result<(
         if again.and_then(|line| read_line(&profile, &line, ANSWER_BYTES)) != Ok(record) {
             return Err("a typed line's key does not read back".to_string());
         }
+    }
+    Ok(())
+}
+
+/// 02, request 7: what is left is a tree; "A sound file comes out the same, with an empty list; salvaging twice changes nothing more. Every
+/// kept node has the label and value it had." The first dropped record is the one that the tree's reader refuses, by its reason, and what
+/// stands below a dropped record is dropped.
+fn salvaging(random: &mut Random, asked: &Asked, finds: &mut Finds) -> Result<(), String> {
+    let profile = &asked.profile;
+    let (_, bytes) = export(random, asked, SMALL_TREE);
+    let (left, read) = match (salvaged(&bytes, profile), read_tree(&bytes, profile)) {
+        (Err(_), Ok(_)) => return Err("a sound file is not salvaged".to_string()),
+        (Err(_), Err(_)) => return Ok(()),
+        (Ok(left), read) => (left, read),
+    };
+    finds.salvaged += !left.dropped.is_empty() as usize;
+    let written = write_tree(&left.nodes, left.kind);
+    if read_tree(&written, profile) != Ok(left.nodes.clone()) {
+        return Err("what is left is no tree".to_string());
+    }
+    let first = left.dropped.first().map(|&(record, number)| Refusal { number, input: TREE_OR_PROOF, record: record as u32 });
+    if read.clone().err() != first || (first.is_none() && written != bytes) {
+        return Err("the first dropped record is not the one that is refused, or a sound file comes out otherwise".to_string());
+    }
+    if salvaged(&written, profile).map(|again| (again.nodes, again.dropped)) != Ok((left.nodes.clone(), Vec::new())) {
+        return Err("salvaging twice changes something more".to_string());
+    }
+    let all = outcomes(&bytes, left.kind, profile);
+    let is_kept = |record: u16| matches!(all.get(record as usize), Some(Outcome::Kept(_)));
+    let kept: Vec<Node> = all.iter().filter_map(|each| if let Outcome::Kept(node) = each { Some(*node) } else { None }).collect();
+    let same = |(old, new): (&Node, &Node)| old.label == new.label && old.value == new.value;
+    if kept.len() != left.nodes.len() || !kept.iter().zip(&left.nodes).all(same) {
+        return Err("a kept node has another label or value".to_string());
+    }
+    if kept.iter().skip(1).any(|node| !is_kept(node.parent)) {
+        return Err("a node below a dropped record is kept".to_string());
     }
     Ok(())
 }

@@ -5,8 +5,23 @@ use std::collections::BTreeMap;
 
 /// The operations that the program `replay` has: each of their cases is compared. Those of another
 /// operation may all be answered `not here`; they are counted apart and compared with nothing.
-pub const PRESENT: [u8; 13] =
-    [REWRITE, BODY, INCLUDE, KEEP, CHECK_PROOF, CHECK_TREE, DECIDE, LIST, READ_LINE, WRITE_LINE, REDUCE, DROPPED_PROOF, TRIM];
+pub const PRESENT: [u8; 15] = [
+    REWRITE,
+    BODY,
+    INCLUDE,
+    KEEP,
+    CHECK_PROOF,
+    CHECK_TREE,
+    DECIDE,
+    LIST,
+    READ_LINE,
+    WRITE_LINE,
+    REDUCE,
+    DROPPED_PROOF,
+    TRIM,
+    SALVAGE,
+    SALVAGE_LISTING,
+];
 pub const NOT_HERE: &str = "not here";
 
 /// A run of so many cases has to meet the minimums; a shorter one only prints what it saw.
@@ -19,7 +34,10 @@ const LEAST_REDUCED: usize = 1_000;
 /// So many lines are read, and so many refused by each number that request 1 adds.
 const LEAST_LINES: usize = 20_000;
 const LEAST_LINES_REFUSED: usize = 1_000;
-const VERDICTS: [(u8, &str); 18] = [
+/// The listing's verdict goes apart by what it lists, and all of them together are twice as many.
+const LEAST_SALVAGE_LISTED: usize = 1_000;
+const LEAST_SALVAGED: usize = 10_000;
+const VERDICTS: [(u8, &str); 22] = [
     (REWRITE, "rewritten"),
     (BODY, "body"),
     (INCLUDE, "included"),
@@ -38,14 +56,33 @@ const VERDICTS: [(u8, &str); 18] = [
     (DROPPED_PROOF, "proof"),
     (DROPPED_PROOF, "proof (empty)"),
     (TRIM, "trimmed"),
+    (SALVAGE, "salvaged"),
+    (SALVAGE_LISTING, "listed"),
+    (SALVAGE_LISTING, "listed (broken keys)"),
+    (SALVAGE_LISTING, "listed (empty)"),
 ];
 
 /// Every refusal that an operation can give, by input and numbers (01, "Refusal numbers"). Each has to be
 /// seen, and no other: 11 is retired, a body lookup refuses nothing, 7 never has input 2.
-const REFUSALS: [(&[u8], u32, &[u32]); 10] = [
-    (&[REWRITE, DECIDE, LIST, READ_LINE, WRITE_LINE, REDUCE, DROPPED_PROOF, TRIM], ANSWER, &[14]),
+const REFUSALS: [(&[u8], u32, &[u32]); 11] = [
+    (&[REWRITE, DECIDE, LIST, READ_LINE, WRITE_LINE, REDUCE, DROPPED_PROOF, TRIM, SALVAGE, SALVAGE_LISTING], ANSWER, &[14]),
     (
-        &[REWRITE, INCLUDE, KEEP, CHECK_PROOF, CHECK_TREE, DECIDE, LIST, READ_LINE, WRITE_LINE, REDUCE, DROPPED_PROOF, TRIM],
+        &[
+            REWRITE,
+            INCLUDE,
+            KEEP,
+            CHECK_PROOF,
+            CHECK_TREE,
+            DECIDE,
+            LIST,
+            READ_LINE,
+            WRITE_LINE,
+            REDUCE,
+            DROPPED_PROOF,
+            TRIM,
+            SALVAGE,
+            SALVAGE_LISTING,
+        ],
         PROFILE,
         &[1, 2, 3, 4, 5, 6, 7, 15],
     ),
@@ -55,6 +92,7 @@ const REFUSALS: [(&[u8], u32, &[u32]); 10] = [
     (&[INCLUDE], TREE_OR_PROOF, &[4, 6]),
     (&[KEEP, CHECK_TREE, LIST], TREE_OR_PROOF, &[1, 2, 7, 8, 16]),
     (&[CHECK_PROOF, TRIM], TREE_OR_PROOF, &[1, 2, 4, 5, 6, 7, 9, 10]),
+    (&[SALVAGE, SALVAGE_LISTING], TREE_OR_PROOF, &[7, 8]),
     (&[CHECK_TREE], PROFILE, &[12]),
     (&[CHECK_TREE], TREE_OR_PROOF, &[13]),
 ];
@@ -63,6 +101,7 @@ const REFUSALS: [(&[u8], u32, &[u32]); 10] = [
 fn least(operation: u8) -> usize {
     match operation {
         REDUCE | DROPPED_PROOF => LEAST_REDUCED,
+        SALVAGE_LISTING => LEAST_SALVAGE_LISTED,
         _ => LEAST,
     }
 }
@@ -71,6 +110,7 @@ fn least(operation: u8) -> usize {
 fn least_cases(operation: u8) -> usize {
     match operation {
         READ_LINE => LEAST_LINES,
+        SALVAGE | SALVAGE_LISTING => LEAST_SALVAGED,
         _ => least(operation),
     }
 }
@@ -87,6 +127,8 @@ pub fn outcome(case: &Case, answer: &Answer) -> String {
         BODY if answer.bytes.is_empty() => " (empty)",
         DROPPED_PROOF if words[0] == "proof" && answer.bytes.is_empty() => " (empty)",
         REDUCE if words.get(1) == Some(&"-") => " none",
+        SALVAGE_LISTING if words[0] == "listed" && answer.bytes.is_empty() => " (empty)",
+        SALVAGE_LISTING if String::from_utf8_lossy(&answer.bytes).contains("broken") => " (broken keys)",
         _ => "",
     };
     format!("{}{}", words[..kept.min(words.len())].join(" "), more)

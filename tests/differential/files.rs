@@ -104,6 +104,7 @@ fn commands(folder: &str, case: &Case) -> String {
         REDUCE => format!("lean reduce {} {}/out", profile, folder),
         DROPPED_PROOF => format!("lean proof {} {} {}/out", profile, case.number, folder),
         TRIM => format!("trim {} {} {} {}/out", profile, second, third, folder),
+        SALVAGE | SALVAGE_LISTING => format!("salvage {} {} {}/out", profile, third, folder),
         _ => "list <tree".to_string(),
     };
     let run = match case.operation {

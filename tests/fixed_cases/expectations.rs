@@ -49,7 +49,7 @@ impl Cases {
     }
 
     /// The case that was put last is answered by its program too.
-    fn also_by_program(&mut self, says: Vec<u8>, out: Option<Vec<u8>>) {
+    pub fn also_by_program(&mut self, says: Vec<u8>, out: Option<Vec<u8>>) {
         if let Some(last) = self.all.last_mut() {
             last.by_program = Some(Printed { says, out });
         }

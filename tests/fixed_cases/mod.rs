@@ -19,6 +19,7 @@ mod order;
 mod profiles;
 mod proofs;
 mod rules;
+mod salvages;
 mod texts;
 mod trees;
 mod trimmings;
@@ -29,7 +30,7 @@ use expectations::{Cases, Fixed};
 /// All cases; each name is used once, so that a difference names its case.
 pub fn all() -> Vec<Fixed> {
     let mut found = Vec::new();
-    let topics: [(&'static str, &[fn(&mut Cases)]); 10] = [
+    let topics: [(&'static str, &[fn(&mut Cases)]); 11] = [
         ("inputs", &[profiles::put, order::put, nodes::put, lines::put, bodies_and_paths::put, cuts::put]),
         ("trees", &[trees::put, listings::put]),
         ("checks", &[rules::put, proofs::put, counterexamples::put]),
@@ -40,6 +41,7 @@ pub fn all() -> Vec<Fixed> {
         ("lean profiles", &[lean::put]),
         ("trimmed proofs", &[trimmings::put]),
         ("keys in plain text", &[texts::put]),
+        ("salvage", &[salvages::put]),
     ];
     for (topic, parts) in topics.iter() {
         let mut cases = Cases::of(topic);

@@ -223,6 +223,14 @@ pub fn trim(profile: &[u8], question: &[u8], proof: &[u8]) -> Case {
     case(TRIM, 0, [profile, question, proof])
 }
 
+pub fn salvage(profile: &[u8], tree: &[u8]) -> Case {
+    case(SALVAGE, 0, [profile, &[], tree])
+}
+
+pub fn salvage_listing(profile: &[u8], tree: &[u8], block: u32) -> Case {
+    case(SALVAGE_LISTING, block, [profile, &[], tree])
+}
+
 /// The same case with an answer buffer of another size.
 pub fn in_room(room: u32, case: Case) -> Case {
     Case { room, ..case }

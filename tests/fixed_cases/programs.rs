@@ -9,6 +9,7 @@ fn command(operation: u8, folder: &str) -> String {
     match operation {
         READ_LINE => format!("text key {0}/profile {0}/second {0}/out", folder),
         WRITE_LINE => format!("text line {0}/profile {0}/second {0}/out", folder),
+        SALVAGE_LISTING => format!("salvage {0}/profile {0}/third {0}/out", folder),
         _ => panic!("no program is run for {}", OPERATIONS[operation as usize]),
     }
 }

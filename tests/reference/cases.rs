@@ -2,6 +2,7 @@
 use super::damage::{damaged, spoiled};
 use super::derivations::{derivation, padded};
 use super::examples::{bench_profile_of, question, ROWS};
+use super::exports::export;
 use super::generate::*;
 use super::paths::*;
 use super::random::Random;
@@ -53,6 +54,7 @@ fn fixed_cases() -> Vec<Case> {
     many_witnesses(&mut all);
     lean_profiles(&mut all);
     typed_lines(&mut all);
+    damaged_exports(&mut all);
     all
 }
 
@@ -184,7 +186,7 @@ fn profile_limits(all: &mut Vec<Case>) {
     for profile in &profiles {
         every_operation(all, profile);
         all.push(Case { number: 1_000, ..case(BODY, profile, &[], &[]) });
-        for operation in [REWRITE, READ_LINE, WRITE_LINE, REDUCE, DROPPED_PROOF] {
+        for operation in [REWRITE, READ_LINE, WRITE_LINE, REDUCE, DROPPED_PROOF, SALVAGE, SALVAGE_LISTING] {
             all.push(Case { room: ROOM - 1, ..case(operation, profile, &[], &[]) });
         }
     }
@@ -215,6 +217,8 @@ fn every_operation(all: &mut Vec<Case>, profile: &[u8]) {
     all.push(case(REDUCE, profile, &[], &[]));
     all.push(case(DROPPED_PROOF, profile, &[], &[]));
     all.push(case(TRIM, profile, &question, &proof));
+    all.push(case(SALVAGE, profile, &[], &root));
+    all.push(case(SALVAGE_LISTING, profile, &[], &root));
 }
 
 fn path_limits(all: &mut Vec<Case>) {
@@ -277,6 +281,7 @@ fn tree_limits(all: &mut Vec<Case>) {
             let mut padded = head.to_vec();
             padded.resize(size, 9);
             all.push(case(KEEP, &base, &key_record(&everywhere), &padded));
+            salvage(all, &base, &padded, &[0]);
         }
     }
     mixed_kinds(all, &base, &key_record(&everywhere));
@@ -520,11 +525,48 @@ fn typed_lines(all: &mut Vec<Case>) {
     }
 }
 
+/// Both calls on a tree, the listing for each of these blocks.
+fn salvage(all: &mut Vec<Case>, profile: &[u8], tree: &[u8], blocks: &[u32]) {
+    all.push(case(SALVAGE, profile, &[], tree));
+    all.extend(blocks.iter().map(|&number| Case { number, ..case(SALVAGE_LISTING, profile, &[], tree) }));
+}
+
+/// Large trees as they are and with one record spoiled; as many records as a file can hold, all but the first of 4 bytes; a tree of three
+/// nodes of mixed kinds, cut at each byte; an attribute in front of its parent, which is none of its attributes.
+fn damaged_exports(all: &mut Vec<Case>) {
+    let broken = Key { context: vec![ANY_PATH], target: vec![2], paths: vec![vec![3]] };
+    let keys = [key_record(&broken), key_record(&key_of(0, 1, &[0]))].concat();
+    for profile in [labels(3, 0), [labels(3, 0), keys.clone()].concat(), [edition_record(SECOND_EDITION), labels(3, 0), keys].concat()] {
+        for (kind, size) in [(NODE_KIND, 1_025), (WIDE_NODE_KIND, 4_096)] {
+            for nodes in large_trees(size, kind) {
+                let bytes = write_tree(&nodes, kind);
+                let mut spoiled = bytes.clone();
+                spoiled[bytes.len() / size * 3 + 6] = 99;
+                salvage(all, &profile, &bytes, &[0, 1]);
+                salvage(all, &profile, &spoiled, &[0, 1, 2, 3, 4]);
+            }
+        }
+        for (kind, tail) in NODE_KINDS.iter().flat_map(|&kind| [&[][..], &[4]].map(|tail| (kind, tail))) {
+            let root = write_tree(&[Node { parent: NONE, label: ROOT, value: 0 }], kind);
+            let size = if kind == NODE_KIND { TREE_BYTES } else { WIDE_TREE_BYTES };
+            let records = record(99, &[]).repeat((size - root.len() - tail.len()) / 4);
+            salvage(all, &profile, &[&root, &records[..], tail].concat(), &[0, 1, 8, 9, 10, 11, u32::MAX]);
+        }
+        for chosen in 0..8 {
+            let nodes = [(NONE, ROOT, 0), (0, 2, 0), (1, 3, 7)].map(|(parent, label, value)| Node { parent, label, value });
+            let bytes: Vec<u8> = (0..3).flat_map(|at| node_record(&nodes[at], NODE_KINDS[chosen >> at & 1])).collect();
+            (0..=bytes.len()).for_each(|end| salvage(all, &profile, &bytes[..end], &[0]));
+        }
+        let nodes = [(NONE, ROOT, 0), (2, 3, 7), (0, 2, 0), (2, 3, 7), (2, 3, 8)].map(|(parent, label, value)| Node { parent, label, value });
+        salvage(all, &profile, &write_tree(&nodes, NODE_KIND), &[0]);
+    }
+}
+
 type Maker = fn(&mut Random, &Asked) -> Case;
 
 /// How many random cases of all of them together each maker makes: as many as give each verdict its minimum
 /// (differential/counts.rs), and more where cases that look right go wrong.
-const SHARES: [(usize, Maker); 13] = [
+const SHARES: [(usize, Maker); 15] = [
     (6, rewrite_case),
     (9, body_case),
     (13, include_case),
@@ -538,6 +580,8 @@ const SHARES: [(usize, Maker); 13] = [
     (9, trim_case),
     (14, read_line_case),
     (6, write_line_case),
+    (7, salvage_case),
+    (9, salvage_listing_case),
 ];
 
 fn random_case(random: &mut Random, asked: &Asked) -> Case {
@@ -631,6 +675,27 @@ fn read_line_case(random: &mut Random, asked: &Asked) -> Case {
 
 fn write_line_case(_: &mut Random, asked: &Asked) -> Case {
     case(WRITE_LINE, &profile_of(asked), &key_record(&asked.question), &[])
+}
+
+/// Most damaged exports are small.
+const EXPORT_NODES: usize = 40;
+
+fn salvage_case(random: &mut Random, asked: &Asked) -> Case {
+    let most = if random.chance(1, 200) { TREE_NODES } else { EXPORT_NODES };
+    let (_, bytes) = export(random, asked, most);
+    case(SALVAGE, &profile_of(asked), &[], &bytes)
+}
+
+/// A key of the profile holds on to the tree, so that it depends on what is left whether it is broken.
+fn salvage_listing_case(random: &mut Random, asked: &Asked) -> Case {
+    let (nodes, bytes) = export(random, asked, EXPORT_NODES);
+    let mut profile = asked.profile.clone();
+    let near = key_on(random, &asked.world, &nodes);
+    if profile.keys.len() < PROFILE_KEYS && !profile.keys.contains(&near) {
+        profile.keys.insert(random.below(profile.keys.len() + 1), near);
+    }
+    let number = if random.chance(1, 8) { random.one_of(&[1, 2, 3, u32::MAX]) } else { 0 };
+    Case { number, ..case(SALVAGE_LISTING, &write_profile(&profile), &[], &bytes) }
 }
 
 fn reduce_case(random: &mut Random, asked: &Asked) -> Case {

@@ -6,7 +6,7 @@ use super::random::Random;
 use super::records::*;
 
 /// The places where the records of an input begin, as its length fields say, and its end.
-fn starts(bytes: &[u8]) -> Vec<usize> {
+pub fn starts(bytes: &[u8]) -> Vec<usize> {
     let mut found = vec![0];
     let mut at = 0;
     while bytes.len() - at >= 2 {

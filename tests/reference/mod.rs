@@ -5,8 +5,9 @@
 //! paths: words, joins, validity, inclusion · records: the inputs, checked from the front ·
 //! trees: value equality, keys kept · witness: why a key is broken · rules: proof lines · decide: pattern, verdict, evidence ·
 //! reduce: lean profiles · listing: blocks of lines · trim: shorter proofs · text: keys in plain text ·
+//! salvage: what is left of a damaged tree ·
 //! operations: the public operations with all refusals in 01's order ·
-//! generate, damage, derivations, typing: random and damaged inputs · refute: trees against an implied question ·
+//! generate, damage, derivations, typing, exports: random and damaged inputs · refute: trees against an implied question ·
 //! cases, stream: the cases of a run and their frames.
 #![allow(dead_code)]
 
@@ -16,6 +17,7 @@ pub mod decide;
 pub mod derivations;
 pub mod encode;
 pub mod examples;
+pub mod exports;
 pub mod generate;
 pub mod listing;
 pub mod operations;
@@ -25,6 +27,7 @@ pub mod records;
 pub mod reduce;
 pub mod refute;
 pub mod rules;
+pub mod salvage;
 pub mod stream;
 pub mod text;
 pub mod trees;
@@ -41,37 +44,68 @@ static WRONG: AtomicUsize = AtomicUsize::new(0);
 
 /// What each wrong line does, by its number less one, and the operations of whose answers in the
 /// stream of seed 1 it changes some.
-pub const WRONG_LINES: [(&[u8], &str); 28] = [
+pub const WRONG_LINES: [(&[u8], &str); 31] = [
     (
-        &[INCLUDE, KEEP, CHECK_PROOF, CHECK_TREE, DECIDE, REDUCE, DROPPED_PROOF, TRIM],
+        &[INCLUDE, KEEP, CHECK_PROOF, CHECK_TREE, DECIDE, REDUCE, DROPPED_PROOF, TRIM, SALVAGE_LISTING],
         "membership: an any-path consumes at least one label",
     ),
     (&[INCLUDE], "inclusion: 201 and 202 are left out of the labels"),
-    (&[KEEP, CHECK_TREE], "value equality: attributes and other children are one list"),
-    (&[KEEP, CHECK_TREE], "tree test: two targets need only one key path in common"),
+    (&[KEEP, CHECK_TREE, SALVAGE_LISTING], "value equality: attributes and other children are one list"),
+    (&[KEEP, CHECK_TREE, SALVAGE_LISTING], "tree test: two targets need only one key path in common"),
     (&[CHECK_PROOF, DECIDE, DROPPED_PROOF, TRIM], "rule 8 wants two key paths in the premise"),
     (&[CHECK_PROOF, TRIM], "rule 9 does not look at the second premise's context"),
-    (&[DECIDE, REDUCE, DROPPED_PROOF], "pattern: with the empty path, t alone is marked and not what lies below"),
+    (&[DECIDE, REDUCE], "pattern: with the empty path, t alone is marked and not what lies below"),
     (&[DECIDE], "u is the highest node that leads to q, not the lowest"),
     (&[DECIDE], "second copy: the filler attribute of a marked node keeps its own number"),
     (
-        &[REWRITE, INCLUDE, KEEP, CHECK_PROOF, CHECK_TREE, DECIDE, LIST, READ_LINE, WRITE_LINE, REDUCE, DROPPED_PROOF, TRIM],
+        &[
+            REWRITE,
+            INCLUDE,
+            KEEP,
+            CHECK_PROOF,
+            CHECK_TREE,
+            DECIDE,
+            LIST,
+            READ_LINE,
+            WRITE_LINE,
+            REDUCE,
+            DROPPED_PROOF,
+            TRIM,
+            SALVAGE,
+            SALVAGE_LISTING,
+        ],
         "records: 5 is given before 4",
     ),
-    (&[LIST], "listing: a block has 1,023 lines"),
+    (&[LIST, SALVAGE_LISTING], "listing: a block has 1,023 lines"),
     (&[CHECK_TREE], "counterexample check: the first profile key alone is tried"),
     (&[BODY], "body: the first record has number 1"),
-    (&[KEEP, CHECK_TREE], "value equality: attributes in table order"),
-    (&[KEEP, CHECK_TREE], "value equality: values compared in their low two bytes"),
+    (&[KEEP, CHECK_TREE, SALVAGE_LISTING], "value equality: attributes in table order"),
+    (&[KEEP, CHECK_TREE, SALVAGE_LISTING], "value equality: values compared in their low two bytes"),
     (&[CHECK_PROOF, TRIM], "rule 10 in edition 1"),
-    (&[KEEP, CHECK_TREE, LIST], "16 only for declared labels: 202 may be repeated"),
-    (&[DECIDE, REDUCE, DROPPED_PROOF], "pattern of edition 2: an attribute steps to its parent only if that is q"),
+    (&[KEEP, CHECK_TREE, LIST, SALVAGE, SALVAGE_LISTING], "16 only for declared labels: 202 may be repeated"),
+    (&[DECIDE, REDUCE], "pattern of edition 2: an attribute steps to its parent only if that is q"),
     (
-        &[REWRITE, BODY, INCLUDE, KEEP, CHECK_PROOF, CHECK_TREE, DECIDE, LIST, READ_LINE, WRITE_LINE, REDUCE, DROPPED_PROOF, TRIM],
+        &[
+            REWRITE,
+            BODY,
+            INCLUDE,
+            KEEP,
+            CHECK_PROOF,
+            CHECK_TREE,
+            DECIDE,
+            LIST,
+            READ_LINE,
+            WRITE_LINE,
+            REDUCE,
+            DROPPED_PROOF,
+            TRIM,
+            SALVAGE,
+            SALVAGE_LISTING,
+        ],
         "15 looks at the key before alone",
     ),
-    (&[KEEP, CHECK_TREE], "witness: the nearest context"),
-    (&[KEEP, CHECK_TREE], "witness: pairs in the order of the way down"),
+    (&[KEEP, CHECK_TREE, SALVAGE_LISTING], "witness: the nearest context"),
+    (&[KEEP, CHECK_TREE, SALVAGE_LISTING], "witness: pairs in the order of the way down"),
     (&[TRIM], "trimming: premises are not pointed to the earliest"),
     (&[TRIM], "trimming: ends at the last line with the question's key"),
     (&[REDUCE, DROPPED_PROOF], "reduction: from the first key to the last"),
@@ -79,6 +113,9 @@ pub const WRONG_LINES: [(&[u8], &str); 28] = [
     (&[READ_LINE], "text: 18 before 17"),
     (&[READ_LINE], "text: the class of a name is not asked"),
     (&[READ_LINE], "text: paths stay as typed"),
+    (&[SALVAGE, SALVAGE_LISTING], "salvage: parents are read as new numbers"),
+    (&[SALVAGE, SALVAGE_LISTING], "salvage: a dropped attribute counts for 16"),
+    (&[SALVAGE, SALVAGE_LISTING], "salvage: stops at 2"),
 ];
 
 pub fn choose_wrong_line(number: usize) {

@@ -6,6 +6,7 @@ use super::paths::is_included;
 use super::records::*;
 use super::reduce::{dropped_key, dropped_proof, reduction};
 use super::rules::follows;
+use super::salvage::{salvage_block, salvaged};
 use super::text::{print_typed, read_text, typed_of};
 use super::trees::Tree;
 use super::trim::trimmed;
@@ -174,4 +175,18 @@ pub fn write_line(profile: &[u8], question: &[u8], answer: usize) -> Result<Vec<
     let profile = read_profile(profile)?;
     let key = read_question(question, &profile.classes)?;
     Ok(print_typed(&typed_of(&profile.labels, &key)))
+}
+
+/// What is left of a damaged tree, written in records of its kind (02, request 7).
+pub fn salvage(profile: &[u8], tree: &[u8], answer: usize) -> Result<Vec<u8>, Refusal> {
+    check_answer(answer)?;
+    let left = salvaged(tree, &read_profile(profile)?)?;
+    Ok(write_tree(&left.nodes, left.kind))
+}
+
+/// Block k of the listing of what was dropped.
+pub fn list_salvage(profile: &[u8], tree: &[u8], k: u64, answer: usize) -> Result<Vec<u8>, Refusal> {
+    check_answer(answer)?;
+    let profile = read_profile(profile)?;
+    Ok(salvage_block(&salvaged(tree, &profile)?, &profile, k))
 }

@@ -1,7 +1,7 @@
 //! Cases of the public operations as a stream of frames, and their answers as a stream of lines.
 //!
 //! A frame: operation (1 byte), then, 4 bytes each and little-endian, number (record of a body, block of
-//! a listing, key of a dropped proof), room (size of the answer buffer that is lent), three lengths; then the three inputs:
+//! a listing of either kind, key of a dropped proof), room (size of the answer buffer that is lent), three lengths; then the three inputs:
 //! profile; question, first path or line; tree, proof or second path.
 //!
 //! An answer: a line, the same that the programs print (`refused N I R`, `implied BYTES`, `kept`, `broken Q A B X Y ..`, ..),
@@ -25,8 +25,10 @@ pub const WRITE_LINE: u8 = 10;
 pub const REDUCE: u8 = 11;
 pub const DROPPED_PROOF: u8 = 12;
 pub const TRIM: u8 = 13;
+pub const SALVAGE: u8 = 14;
+pub const SALVAGE_LISTING: u8 = 15;
 /// By number; one that is not taken has no name.
-pub const OPERATIONS: [&str; 14] = [
+pub const OPERATIONS: [&str; 16] = [
     "",
     "rewrite",
     "body",
@@ -41,6 +43,8 @@ pub const OPERATIONS: [&str; 14] = [
     "reduce",
     "dropped proof",
     "trim",
+    "salvage",
+    "salvage listing",
 ];
 
 #[derive(Clone)]
@@ -74,8 +78,8 @@ pub fn write_answer(out: &mut dyn Write, answer: &Answer) -> std::io::Result<()>
 }
 
 /// Words of a line that ends in a number of bytes, which follow it.
-pub const WITH_BYTES: [&str; 10] =
-    ["rewritten ", "body ", "listed ", "implied ", "not implied ", "reduced ", "proof ", "trimmed ", "key ", "text "];
+pub const WITH_BYTES: [&str; 11] =
+    ["rewritten ", "body ", "listed ", "implied ", "not implied ", "reduced ", "proof ", "trimmed ", "key ", "text ", "salvaged "];
 
 /// The next answer of a stream; none where it ends or breaks off.
 pub fn read_answer(stream: &mut dyn BufRead) -> Option<Answer> {
@@ -148,6 +152,8 @@ pub fn answer(case: &Case) -> Answer {
         REDUCE => reduce(a, room).map(with_dropped),
         DROPPED_PROOF => prove_dropped(a, number as usize, room).map(|bytes| with_bytes("proof", bytes)),
         TRIM => trim(a, b, c, room).map(|bytes| with_bytes("trimmed", bytes)),
+        SALVAGE => salvage(a, c, room).map(|bytes| with_bytes("salvaged", bytes)),
+        SALVAGE_LISTING => list_salvage(a, c, number as u64, room).map(|bytes| with_bytes("listed", bytes)),
         _ => decide(a, b, room).map(|decision| match decision {
             Decision::Implied(proof) => with_bytes("implied", proof),
             Decision::NotImplied(tree) => with_bytes("not implied", tree),

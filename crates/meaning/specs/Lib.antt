@@ -13,3 +13,4 @@ pub mod Operations
 pub mod Reduction
 pub mod Trimming
 pub mod Text
+pub mod Salvage

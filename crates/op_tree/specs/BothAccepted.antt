@@ -160,7 +160,7 @@ module _ {profile classes : List ℕ} {second : Bool} {labels keys : ℕ} (count
             subst GoodKey (sym (body-place n)) (key-body (labelsIn profile) _ (p .isWhole) (p .kind) (p .good));
       }
 
-  key-at : (n : ℕ) → n < keys → getElem? (keysIn profile) n ≡ some (keyIn (keyBodyAt part n))
+  pub key-at : (n : ℕ) → n < keys → getElem? (keysIn profile) n ≡ some (keyIn (keyBodyAt part n))
   key-at n h = place n h .is ∙ ap (λ (b : List ℕ). some (keyIn b)) (sym (body-place n))
 
   module _ {question tree : List ℕ} (asked : BothAccepted second question tree classes) {hung : List ℕ} {r q a b : ℕ}

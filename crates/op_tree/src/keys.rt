@@ -34,7 +34,8 @@ pub fn test_key(
     memo: &mut [u16; MEMO],
 ) -> Tested
     requires { ⌜ Prepared (now classes) (now tree) (now rows) × GoodKey (now body) × Lent (now top) (now hung) (now sorted) (now memo) ⌝ }
-    ensures { λ r. ⌜ KeyTested (classBy (now (classes .entry))) (fileTable (now (tree .entry))) (keyIn (now (body .entry))) r ⌝ }
+    ensures { λ r. ⌜ KeyTested (classBy (now (classes .entry))) (fileTable (now (tree .entry))) (keyIn (now (body .entry))) r
+        × Lent (now (top .exit)) (now (hung .exit)) (now (sorted .exit)) (now (memo .exit)) ⌝ }
 {
     let found = broken_key(tree, classes, rows, body, top, hung, sorted, memo);
     if found.found {

@@ -1,6 +1,6 @@
 // "test whether a tree keeps a key; check a counterexample" (document 01, "What the work covers"). Neither asks anything of its bytes.
 mod inputs;
-mod keys;
+pub mod keys;
 
 use crate::inputs::read_both;
 use crate::keys::Tested;

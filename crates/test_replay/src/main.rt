@@ -54,6 +54,10 @@ const DROPPED_PROOF: u8 = 12;
 
 const TRIM: u8 = 13;
 
+const SALVAGE: u8 = 14;
+
+const SALVAGE_LISTING: u8 = 15;
+
 // No input of the stream is longer than a question of two whole records, and there are three.
 const INPUTS_ROOM: usize = 393216;
 
@@ -158,6 +162,14 @@ fn answer_request(case: Case, first: &[u8], second: &[u8], third: &[u8], answer:
     if case.operation == TRIM {
         let trimmed = trim(first, second, third, answer);
         return filling(b"trimmed", trimmed, answer);
+    }
+    if case.operation == SALVAGE {
+        let salvaged = op_salvage::salvage::salvage(first, third, answer);
+        return filling(b"salvaged", salvaged, answer);
+    }
+    if case.operation == SALVAGE_LISTING {
+        let listed = op_salvage_list::salvage_block(first, third, case.number, answer);
+        return filling(b"listed", listed, answer);
     }
     not_here();
 }

@@ -15,7 +15,7 @@ use Rattle.write_listing.specs.Lines.{linesOf, lineAt, blockOf, lines-at
 unfoldable pub shown : (ℕ → Class) → Table → ℕ → ℕ → List ℕ
 shown κ t start i = flatten (take (i - start) (drop start (linesOf κ t)))
 
-flatten-append : (xs : List (List ℕ)) (y : List ℕ) → flatten (xs ++ (y ∷ [])) ≡ flatten xs ++ y
+pub flatten-append : (xs : List (List ℕ)) (y : List ℕ) → flatten (xs ++ (y ∷ [])) ≡ flatten xs ++ y
 unfolding flatten
 flatten-append [] y = append-nil y
 flatten-append (x ∷ xs) y = ap (λ (w : List ℕ). x ++ w) (flatten-append xs y) ∙ sym (append-assoc x (flatten xs) y)

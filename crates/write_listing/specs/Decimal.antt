@@ -27,7 +27,10 @@ pub decimal-more : (n : ℕ) → 10 ≤ n → decimal n ≡ decimal (n / 10) ++ 
 unfolding digits decimal
 decimal-more n h = rw (le-ltb n 10 h, steps-same n (suc (n / 10)) (n / 10) (omega arith) (omega arith))
 
-length-more : (n : ℕ) → 10 ≤ n → length (decimal n) ≡ length (decimal (n / 10)) + 1
+pub length-one : (n : ℕ) → n < 10 → length (decimal n) ≡ 1
+length-one n h = ap length (decimal-one n h)
+
+pub length-more : (n : ℕ) → 10 ≤ n → length (decimal n) ≡ length (decimal (n / 10)) + 1
 length-more n h = ap length (decimal-more n h) ∙ length-append (decimal (n / 10)) ((48 + n % 10) ∷ [])
 
 -- at most k digits, where the tenth part has at most k - 1
@@ -48,10 +51,11 @@ unfolding tens
 most-digits zero n h = fewer 0 n (λ g. absurd (omega arith))
 most-digits (suc k) n h = let m = fewer (k + 1) n (λ g. most-digits k (n / 10) (omega arith)) in omega arith
 
-pub nine-digits : (n : ℕ) → n < 1000000000 → length (decimal n) ≤ 9
-unfolding tens
-nine-digits n h = most-digits 8 n h
-
 pub ten-digits : (n : ℕ) → n < 4294967296 → length (decimal n) ≤ 10
 unfolding tens
 ten-digits n h = most-digits 9 n (omega arith)
+
+-- a number of eight bytes has at most twenty
+pub twenty-digits : (n : ℕ) → n < 18446744073709551616 → length (decimal n) ≤ 20
+unfolding tens
+twenty-digits n h = most-digits 19 n (omega arith)

@@ -11,7 +11,7 @@ use Rattle.meaning.specs.Paths.{Class, isElement}
 use Rattle.meaning.specs.Trees.{Table}
 use Rattle.meaning.specs.Listing.{decimal}
 use Rattle.write_bytes.specs.Wrote.{Wrote, wrote-more, wrote-none, wrote-byte, wrote-then-byte, wrote-two}
-use Rattle.write_listing.specs.Decimal.{decimal-one, decimal-more, nine-digits, ten-digits}
+use Rattle.write_listing.specs.Decimal.{decimal-one, decimal-more, length-one, length-more, ten-digits}
 use Rattle.write_listing.specs.Lines.{field, field-length, lineOf, lineAt, headOf, line-short, head-short, blockOf}
 use Rattle.write_listing.specs.Blocks.{shown, shown-none, shown-more, shown-all, block-past}
 
@@ -19,17 +19,19 @@ use Rattle.write_listing.specs.Blocks.{shown, shown-none, shown-more, sh
 pub wrote-room : {out end v : List ℕ} {at next : ℕ} (k : ℕ) → Wrote out end at v next → at + length v + k ≤ length out → next + k ≤ length end
 wrote-room k w h = let e = w .kept in let n = w .after in omega arith
 
-pub wrote-digit : (out : List ℕ) (at n : ℕ) → n < 10 → at < length out → Wrote out (set out at (48 + n)) at (decimal n) (at + 1)
-wrote-digit out at n h r = subst (λ (v : List ℕ). Wrote out (set out at (48 + n)) at v (at + 1)) (sym (decimal-one n h)) (wrote-byte out at (48 + n) (omega arith))
+pub wrote-digit : (out : List ℕ) (at n : ℕ) → n < 10 → at + length (decimal n) ≤ length out → Wrote out (set out at (48 + n)) at (decimal n) (at + 1)
+wrote-digit out at n h r =
+    let e = length-one n h in
+    subst (λ (v : List ℕ). Wrote out (set out at (48 + n)) at v (at + 1)) (sym (decimal-one n h)) (wrote-byte out at (48 + n) (omega arith))
 
-module _ {out mid : List ℕ} {at next : ℕ} (n : ℕ) (small : n < 4294967296) (more : 10 ≤ n) (room : at + 10 ≤ length out)
+module _ {out mid : List ℕ} {at next : ℕ} (n : ℕ) (more : 10 ≤ n) (room : at + length (decimal n) ≤ length out)
     (w : Wrote out mid at (decimal (n / 10)) next) where
   pub digits-room : next < length mid
-  digits-room = let d = nine-digits (n / 10) (omega arith) in let r = wrote-room 1 w (omega arith) in omega arith
+  digits-room = let e = length-more n more in let r = wrote-room 1 w (omega arith) in omega arith
 
   pub wrote-digits : Wrote out (set mid next (48 + n % 10)) at (decimal n) (next + 1)
   wrote-digits =
-      let d = nine-digits (n / 10) (omega arith) in
+      let e = length-more n more in
       subst (λ (v : List ℕ). Wrote out (set mid next (48 + n % 10)) at v (next + 1)) (sym (decimal-more n more))
       (wrote-then-byte (48 + n % 10) w (omega arith))
 

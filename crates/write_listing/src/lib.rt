@@ -28,8 +28,8 @@ const BLOCK_LINES: usize = 1024;
 const BLOCKS: usize = 5;
 
 // A number in decimal digits.
-fn put_decimal(out: &mut [u8], at: usize, n: usize) -> usize
-    requires { ⌜ (n < 4294967296) × (at + 10 ≤ length (now out)) ⌝ }
+pub fn put_decimal(out: &mut [u8], at: usize, n: usize) -> usize
+    requires { ⌜ at + length (decimal n) ≤ length (now out) ⌝ }
     ensures { λ r. ⌜ Wrote (now (out .entry)) (now (out .exit)) at (decimal n) r ⌝ }
 {
     if n < TEN {
@@ -42,7 +42,7 @@ fn put_decimal(out: &mut [u8], at: usize, n: usize) -> usize
 }
 
 // A number, or `-` "for no parent or no value", and the byte behind it.
-fn put_field(out: &mut [u8], at: usize, shown: bool, n: usize, end: u8) -> usize
+pub fn put_field(out: &mut [u8], at: usize, shown: bool, n: usize, end: u8) -> usize
     requires { ⌜ (n < 4294967296) × (at + 11 ≤ length (now out)) ⌝ }
     ensures { λ r. ⌜ Wrote (now (out .entry)) (now (out .exit)) at (field shown n end) r ⌝ }
 {

@@ -1,6 +1,7 @@
 use native.Mathlib.Omega.{arith}
 use lib.ListN.{length-set}
 use Rattle.write_listing.specs.Writing.{wrote-digit, wrote-digits, digits-room}
+use Rattle.write_listing.specs.Decimal.{length-one, length-more}
 use Prim.Native.Nat.{ℕ, _<_}
 use borrow.Fn.Kinds.{In}
 use borrow.Fn.PlainCycle.{Measures, is, falls, and}
@@ -40,14 +41,14 @@ put-decimal-slice-write-out : (t : ℕ) → put-decimal-lts.Need-slice-write-out
   put-decimal-below t,
   put-decimal.Post,
 ) (put-decimal-at t) put-decimal.Post
-put-decimal-slice-write-out t c = let p = c .before .before .pre .1 .1 in omega arith
+put-decimal-slice-write-out t c = let e = length-one _ (c .if1 .taken) in let r = c .before .before .pre .1 in omega arith
 
 -- src/lib.rt:29:16
 put-decimal-add-result : (t : ℕ) → put-decimal-lts.Need-add-result (
   put-decimal-below t,
   put-decimal.Post,
 ) (put-decimal-at t) put-decimal.Post
-put-decimal-add-result t c = record { fits = let p = c .before .before .pre .1 .1 in omega arith }
+put-decimal-add-result t c = record { fits = let e = length-one _ (c .if1 .taken) in let r = c .before .before .pre .1 in omega arith }
 
 -- src/lib.rt:29:9
 put-decimal-same-length : (t : ℕ) → put-decimal-lts.Need-same-length (
@@ -61,14 +62,14 @@ put-decimal-returns : (t : ℕ) → put-decimal-lts.Need-returns (
   put-decimal-below t,
   put-decimal.Post,
 ) (put-decimal-at t) put-decimal.Post
-put-decimal-returns t c = wrote-digit _ _ _ (c .if1 .taken) (let p = c .before .before .pre .1 .1 in omega arith)
+put-decimal-returns t c = wrote-digit _ _ _ (c .if1 .taken) (c .before .before .pre .1)
 
 -- src/lib.rt:31:9
 put-decimal-put-decimal-requires : (t : ℕ) → put-decimal-lts.Need-put-decimal-requires (
   put-decimal-below t,
   put-decimal.Post,
 ) (put-decimal-at t) put-decimal.Post
-put-decimal-put-decimal-requires t c κs = let p = c .before .before .before .pre in (let e = p .0 in omega arith, (let q = p .1 .0 in omega arith, p .1 .1))
+put-decimal-put-decimal-requires t c κs = let p = c .before .before .before .pre in (let e = p .0 in omega arith, let m = length-more _ (c .before .if1 .left) in let r = p .1 in omega arith)
 
 -- src/lib.rt:32:18
 put-decimal-add-out-2 : (t : ℕ) → put-decimal-lts.Need-add-out-2 (
@@ -89,14 +90,14 @@ put-decimal-slice-write-out-2 : (t : ℕ) → put-decimal-lts.Need-slice-write-o
   put-decimal-below t,
   put-decimal.Post,
 ) (put-decimal-at t) put-decimal.Post
-put-decimal-slice-write-out-2 t c = let p = c .before .before .before .before .before .before .pre .1 in digits-room _ (p .0) (omega arith) (p .1) (c .before .before .put-decimal .ensures)
+put-decimal-slice-write-out-2 t c = let p = c .before .before .before .before .before .before .pre .1 in digits-room _ (omega arith) p (c .before .before .put-decimal .ensures)
 
 -- src/lib.rt:33:5
 put-decimal-add-result-2 : (t : ℕ) → put-decimal-lts.Need-add-result-2 (
   put-decimal-below t,
   put-decimal.Post,
 ) (put-decimal-at t) put-decimal.Post
-put-decimal-add-result-2 t c = record { fits = let p = c .before .before .before .before .before .before .pre .1 in let r = digits-room _ (p .0) (omega arith) (p .1) (c .before .before .put-decimal .ensures) in let k = c .before .before .put-decimal .kept .0 in omega arith }
+put-decimal-add-result-2 t c = record { fits = let p = c .before .before .before .before .before .before .pre .1 in let r = digits-room _ (omega arith) p (c .before .before .put-decimal .ensures) in let k = c .before .before .put-decimal .kept .0 in omega arith }
 
 -- src/lib.rt:23:1
 put-decimal-same-length-2 : (t : ℕ) → put-decimal-lts.Need-same-length-2 (
@@ -110,7 +111,7 @@ put-decimal-returns-2 : (t : ℕ) → put-decimal-lts.Need-returns-2 (
   put-decimal-below t,
   put-decimal.Post,
 ) (put-decimal-at t) put-decimal.Post
-put-decimal-returns-2 t c = let p = c .before .before .before .before .before .before .pre .1 in wrote-digits _ (p .0) (omega arith) (p .1) (c .before .before .put-decimal .ensures)
+put-decimal-returns-2 t c = let p = c .before .before .before .before .before .before .pre .1 in wrote-digits _ (omega arith) p (c .before .before .put-decimal .ensures)
 
 pub +put-decimal-spec : {M : Type 1} → statement M
 +put-decimal-spec = close μ-put-decimal λ t. put-decimal-lts.spec (

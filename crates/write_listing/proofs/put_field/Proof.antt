@@ -1,6 +1,7 @@
 use native.Mathlib.Omega.{arith}
 use lib.ListN.{length-set}
 use Rattle.write_listing.specs.Writing.{field-shown, field-room, field-dash}
+use Rattle.write_listing.specs.Decimal.{ten-digits}
 use borrow.Author.Needs.{needs}
 use Rattle.write_listing.proofs.put_field.Statement.{statement}
 use Rattle.write_listing.proofs.put_field.Tie as tie
@@ -10,7 +11,7 @@ use Rattle.write_listing.proofs.put_decimal.Reads as put-decimal-reads
 
 -- src/lib.rt:42:13
 put-decimal-requires : tie.Need-put-decimal-requires
-put-decimal-requires c κs = search needs
+put-decimal-requires c κs = let d = ten-digits _ (c .before .before .before .pre .0) in let r = c .before .before .before .pre .1 in omega arith
 
 -- src/lib.rt:43:9
 slice-write-out : tie.Need-slice-write-out

@@ -15,10 +15,10 @@ witness-requires : tie.Need-witness-requires
 witness-requires c κs = (search (hanging-so), search (tested-first))
 
 returns : tie.Need-returns
-returns c = tested-shows _ (c .witness .ensures)
+returns c = (tested-shows _ (c .witness .ensures), search needs)
 
 returns-2 : tie.Need-returns-2
-returns-2 c = tested-keeps (c .before .broken-key .ensures .0) (c .if1 .left)
+returns-2 c = (tested-keeps (c .before .broken-key .ensures .0) (c .if1 .left), c .before .broken-key .ensures .2)
 
 pub test-key-spec : {M : Type 1} → statement M
 test-key-spec = tie.close (tie.spec broken-key-requires witness-requires returns returns-2)

@@ -1,0 +1,2 @@
+-- The lines of the broken keys, key by key.
+pub mod Broken
