@@ -8,7 +8,7 @@ set -eu
 root=$(CDPATH= cd -- "$(dirname -- "$0")/.." && pwd)
 cd "$root"
 seed=${1:-1}
-count=${2:-355000}
+count=${2:-362000}
 work=target/tests
 # The reference's own consistency, and the wrong lines, need no more random cases than these.
 few=20000

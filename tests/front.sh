@@ -223,6 +223,18 @@ done
 said=$(echo "salvaged 11262" && seq -f '%.0f 2' 1 11261 && echo "11262 1")
 expect 0 "$said$line" salvage "$damaged/profile.key" "$work/many" "$work/again"
 
+# a campaign: b's tree breaks a's key, an empty file is refused by 8, and a name that cannot be read is counted
+"$front" decide "$examples/b.profile" "$examples/b.question" "$work/segment" >"$work/said" || true
+printf '%s\n%s\n%s\n' "$work/segment" "$work/empty" "$work/none" >"$work/list"
+expect 0 "0 0 1${line}8 1${line}unread 1$line" campaign "$examples/a.profile" "$work/list"
+printf '%s\n' "$work/none" >"$work/unread"
+expect 0 "0 0 0${line}unread 1$line" campaign "$examples/a.profile" "$work/unread"
+expect 0 "unread 1$line" campaign "$work/empty" "$work/unread"
+expect 2 "refused 4 1 0$line" campaign "$examples/b.question" "$work/list"
+expect 5 "unreadable $work/none$line" campaign "$work/none" "$work/list"
+expect 5 "unreadable $work/none$line" campaign "$examples/a.profile" "$work/none"
+expect 3 "usage: campaign PROFILE LIST$line" campaign "$examples/a.profile"
+
 # an empty file is empty: no labels, so the question's symbol 3 is unknown
 expect 2 "refused 4 2 0$line" decide "$work/empty" "$examples/b.question" "$work/not_made"
 expect 0 "included$line" profile include "$examples/b.profile" "$work/empty" "$work/empty"

@@ -1,4 +1,5 @@
 //! What 01 promises of the operations together, held on the reference alone.
+use crate::reference::campaign::{kept_and_broken, outcome, refused_by_number, unread, Outcome as Counted};
 use crate::reference::decide::proof;
 use crate::reference::derivations::{derivation, padded};
 use crate::reference::exports::export;
@@ -49,6 +50,7 @@ pub fn is_consistent(seed: u64, count: usize) -> bool {
             .and_then(|_| lean_profile(&mut random, &asked, &mut finds.dropped))
             .and_then(|_| plain_text(&mut random, &asked, &mut finds))
             .and_then(|_| salvaging(&mut random, &asked, &mut finds))
+            .and_then(|_| counting(&mut random, &asked))
             .and_then(|_| decision(&mut random, &asked));
         if let Err(fault) = &found {
             failed += 1;
@@ -203,6 +205,29 @@ fn salvaging(random: &mut Random, asked: &Asked, finds: &mut Finds) -> Result<()
     }
     if kept.iter().skip(1).any(|node| !is_kept(node.parent)) {
         return Err("a node below a dropped record is kept".to_string());
+    }
+    Ok(())
+}
+
+/// 02, request 12: "for each key kept, broken, refused and unread together make the number of inputs"; and a key is kept by as many as keep
+/// it by definition.
+fn counting(random: &mut Random, asked: &Asked) -> Result<(), String> {
+    let profile = &asked.profile;
+    let inputs: Vec<Option<Vec<u8>>> = (0..random.below(5))
+        .map(|_| if random.chance(1, 5) { None } else { Some(export(random, asked, SMALL_TREE).1) })
+        .collect();
+    let all: Vec<Counted> = inputs.iter().map(|segment| outcome(segment.as_deref(), profile)).collect();
+    let apart = refused_by_number(&all).iter().map(|(_, count)| count).sum::<usize>() + unread(&all);
+    for (number, key) in profile.keys.iter().enumerate().take(KEYS_BY_DEFINITION) {
+        let (kept, broken) = kept_and_broken(&all, number);
+        if kept + broken + apart != inputs.len() {
+            return Err("the counts of a key do not make the number of inputs".to_string());
+        }
+        let read = inputs.iter().flatten().filter_map(|bytes| read_tree(bytes, profile).ok());
+        let keeping = read.filter(|nodes| Tree::new(nodes, &profile.classes).keeps_by_definition(key)).count();
+        if keeping != kept {
+            return Err("a count is not that of the inputs that keep the key".to_string());
+        }
     }
     Ok(())
 }

@@ -5,7 +5,7 @@ use std::collections::BTreeMap;
 
 /// The operations that the program `replay` has: each of their cases is compared. Those of another
 /// operation may all be answered `not here`; they are counted apart and compared with nothing.
-pub const PRESENT: [u8; 15] = [
+pub const PRESENT: [u8; 16] = [
     REWRITE,
     BODY,
     INCLUDE,
@@ -21,6 +21,7 @@ pub const PRESENT: [u8; 15] = [
     TRIM,
     SALVAGE,
     SALVAGE_LISTING,
+    CAMPAIGN,
 ];
 pub const NOT_HERE: &str = "not here";
 
@@ -37,7 +38,9 @@ const LEAST_LINES_REFUSED: usize = 1_000;
 /// The listing's verdict goes apart by what it lists, and all of them together are twice as many.
 const LEAST_SALVAGE_LISTED: usize = 1_000;
 const LEAST_SALVAGED: usize = 10_000;
-const VERDICTS: [(u8, &str); 22] = [
+/// A campaign has several trees, each for every key: fewer of them, with and without a refused one.
+const LEAST_CAMPAIGNS: usize = 2_000;
+const VERDICTS: [(u8, &str); 24] = [
     (REWRITE, "rewritten"),
     (BODY, "body"),
     (INCLUDE, "included"),
@@ -60,12 +63,14 @@ const VERDICTS: [(u8, &str); 22] = [
     (SALVAGE_LISTING, "listed"),
     (SALVAGE_LISTING, "listed (broken keys)"),
     (SALVAGE_LISTING, "listed (empty)"),
+    (CAMPAIGN, "reported"),
+    (CAMPAIGN, "reported (refused)"),
 ];
 
 /// Every refusal that an operation can give, by input and numbers (01, "Refusal numbers"). Each has to be
 /// seen, and no other: 11 is retired, a body lookup refuses nothing, 7 never has input 2.
-const REFUSALS: [(&[u8], u32, &[u32]); 11] = [
-    (&[REWRITE, DECIDE, LIST, READ_LINE, WRITE_LINE, REDUCE, DROPPED_PROOF, TRIM, SALVAGE, SALVAGE_LISTING], ANSWER, &[14]),
+const REFUSALS: [(&[u8], u32, &[u32]); 12] = [
+    (&[REWRITE, DECIDE, LIST, READ_LINE, WRITE_LINE, REDUCE, DROPPED_PROOF, TRIM, SALVAGE, SALVAGE_LISTING, CAMPAIGN], ANSWER, &[14]),
     (
         &[
             REWRITE,
@@ -82,6 +87,7 @@ const REFUSALS: [(&[u8], u32, &[u32]); 11] = [
             TRIM,
             SALVAGE,
             SALVAGE_LISTING,
+            CAMPAIGN,
         ],
         PROFILE,
         &[1, 2, 3, 4, 5, 6, 7, 15],
@@ -93,6 +99,7 @@ const REFUSALS: [(&[u8], u32, &[u32]); 11] = [
     (&[KEEP, CHECK_TREE, LIST], TREE_OR_PROOF, &[1, 2, 7, 8, 16]),
     (&[CHECK_PROOF, TRIM], TREE_OR_PROOF, &[1, 2, 4, 5, 6, 7, 9, 10]),
     (&[SALVAGE, SALVAGE_LISTING], TREE_OR_PROOF, &[7, 8]),
+    (&[CAMPAIGN], TREE_OR_PROOF, &[7]),
     (&[CHECK_TREE], PROFILE, &[12]),
     (&[CHECK_TREE], TREE_OR_PROOF, &[13]),
 ];
@@ -102,6 +109,7 @@ fn least(operation: u8) -> usize {
     match operation {
         REDUCE | DROPPED_PROOF => LEAST_REDUCED,
         SALVAGE_LISTING => LEAST_SALVAGE_LISTED,
+        CAMPAIGN => LEAST_CAMPAIGNS,
         _ => LEAST,
     }
 }
@@ -113,6 +121,12 @@ fn least_cases(operation: u8) -> usize {
         SALVAGE | SALVAGE_LISTING => LEAST_SALVAGED,
         _ => least(operation),
     }
+}
+
+/// Of a report's lines those of the refusal numbers have two numbers.
+fn is_refusal_line(line: &[u8]) -> bool {
+    let words: Vec<&[u8]> = line.split(|&byte| byte == b' ').collect();
+    words.len() == 2 && words[0] != b"unread"
 }
 
 /// What a case came to: its verdict without the bytes used, or the refusal's number and input.
@@ -129,6 +143,7 @@ pub fn outcome(case: &Case, answer: &Answer) -> String {
         REDUCE if words.get(1) == Some(&"-") => " none",
         SALVAGE_LISTING if words[0] == "listed" && answer.bytes.is_empty() => " (empty)",
         SALVAGE_LISTING if String::from_utf8_lossy(&answer.bytes).contains("broken") => " (broken keys)",
+        CAMPAIGN if answer.bytes.split(|&byte| byte == b'\n').any(is_refusal_line) => " (refused)",
         _ => "",
     };
     format!("{}{}", words[..kept.min(words.len())].join(" "), more)

@@ -1,4 +1,5 @@
 //! A case that differs, printed and written as files that can be run again.
+use crate::reference::campaign;
 use crate::reference::records::ANSWER_BYTES;
 use crate::reference::stream::*;
 use std::fs::{create_dir_all, remove_dir_all, write};
@@ -65,6 +66,7 @@ fn names(operation: u8) -> [&'static str; 2] {
         INCLUDE => ["path", "other"],
         CHECK_PROOF | TRIM => ["question", "proof"],
         READ_LINE => ["line", "tree"],
+        CAMPAIGN => ["list", "segments"],
         _ => ["question", "tree"],
     }
 }
@@ -75,6 +77,9 @@ fn write_files(folder: &std::path::Path, case: &Case, wanted: &Answer, found: Op
     for (name, bytes) in [PROFILE_FILE, second, third].iter().zip(&case.inputs) {
         write(folder.join(name), bytes)?;
     }
+    if case.operation == CAMPAIGN {
+        write_segments(folder, case)?;
+    }
     let mut frame = Vec::new();
     write_case(&mut frame, case)?;
     write(folder.join("frame"), frame)?;
@@ -84,6 +89,18 @@ fn write_files(folder: &std::path::Path, case: &Case, wanted: &Answer, found: Op
         write(folder.join(name), bytes)?;
     }
     write(folder.join("commands"), commands(&folder.to_string_lossy(), case))
+}
+
+/// The segments of a campaign under the names that its list has, as far as these are plain.
+fn write_segments(folder: &std::path::Path, case: &Case) -> std::io::Result<()> {
+    for (name, segment) in campaign::names(&case.inputs[1]).into_iter().zip(campaign::unframed(&case.inputs[2])) {
+        let is_plain = !name.is_empty() && name.iter().all(|byte| byte.is_ascii_alphanumeric());
+        match (std::str::from_utf8(name), segment) {
+            (Ok(name), Some(bytes)) if is_plain => write(folder.join(name), bytes)?,
+            _ => {}
+        }
+    }
+    Ok(())
 }
 
 /// The lines that run a case again: by the program that has its operation, and by `replay`, which alone
@@ -105,10 +122,11 @@ fn commands(folder: &str, case: &Case) -> String {
         DROPPED_PROOF => format!("lean proof {} {} {}/out", profile, case.number, folder),
         TRIM => format!("trim {} {} {} {}/out", profile, second, third, folder),
         SALVAGE | SALVAGE_LISTING => format!("salvage {} {} {}/out", profile, third, folder),
+        CAMPAIGN => format!("campaign {} {}", PROFILE_FILE, "list"),
         _ => "list <tree".to_string(),
     };
     let run = match case.operation {
-        LIST => format!("(root=$PWD; cd {} && \"$root/tests/run_program.sh\" {})", folder, program),
+        LIST | CAMPAIGN => format!("(root=$PWD; cd {} && \"$root/tests/run_program.sh\" {})", folder, program),
         _ => format!("tests/run_program.sh {}", program),
     };
     let note = if case.room as usize == ANSWER_BYTES { "" } else { "   # lends another room than this case" };

@@ -4,6 +4,7 @@ pub mod notation;
 pub mod programs;
 
 mod bodies_and_paths;
+mod campaigns;
 mod chains;
 mod counterexamples;
 mod cuts;
@@ -30,7 +31,7 @@ use expectations::{Cases, Fixed};
 /// All cases; each name is used once, so that a difference names its case.
 pub fn all() -> Vec<Fixed> {
     let mut found = Vec::new();
-    let topics: [(&'static str, &[fn(&mut Cases)]); 11] = [
+    let topics: [(&'static str, &[fn(&mut Cases)]); 12] = [
         ("inputs", &[profiles::put, order::put, nodes::put, lines::put, bodies_and_paths::put, cuts::put]),
         ("trees", &[trees::put, listings::put]),
         ("checks", &[rules::put, proofs::put, counterexamples::put]),
@@ -42,6 +43,7 @@ pub fn all() -> Vec<Fixed> {
         ("trimmed proofs", &[trimmings::put]),
         ("keys in plain text", &[texts::put]),
         ("salvage", &[salvages::put]),
+        ("campaigns", &[campaigns::put]),
     ];
     for (topic, parts) in topics.iter() {
         let mut cases = Cases::of(topic);

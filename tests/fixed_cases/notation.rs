@@ -2,6 +2,7 @@
 //!
 //! Nothing is put in order or mended here: key paths stand as typed, and a symbol may be any number, so that an input can have
 //! the very fault that a case is about.
+use crate::reference::campaign::framed;
 use crate::reference::encode::record;
 use crate::reference::stream::*;
 
@@ -229,6 +230,11 @@ pub fn salvage(profile: &[u8], tree: &[u8]) -> Case {
 
 pub fn salvage_listing(profile: &[u8], tree: &[u8], block: u32) -> Case {
     case(SALVAGE_LISTING, block, [profile, &[], tree])
+}
+
+/// The inputs in the order of the names; none for one that cannot be read.
+pub fn campaign(profile: &[u8], list: &[u8], inputs: &[Option<Vec<u8>>]) -> Case {
+    case(CAMPAIGN, 0, [profile, list, &framed(inputs)])
 }
 
 /// The same case with an answer buffer of another size.

@@ -1,4 +1,5 @@
 //! The cases of a run: fixed ones at each limit, then random ones, whole and damaged.
+use super::campaign::{framed, CAMPAIGN_NAMES};
 use super::damage::{damaged, spoiled};
 use super::derivations::{derivation, padded};
 use super::examples::{bench_profile_of, question, ROWS};
@@ -55,6 +56,7 @@ fn fixed_cases() -> Vec<Case> {
     lean_profiles(&mut all);
     typed_lines(&mut all);
     damaged_exports(&mut all);
+    campaigns(&mut all);
     all
 }
 
@@ -186,7 +188,7 @@ fn profile_limits(all: &mut Vec<Case>) {
     for profile in &profiles {
         every_operation(all, profile);
         all.push(Case { number: 1_000, ..case(BODY, profile, &[], &[]) });
-        for operation in [REWRITE, READ_LINE, WRITE_LINE, REDUCE, DROPPED_PROOF, SALVAGE, SALVAGE_LISTING] {
+        for operation in [REWRITE, READ_LINE, WRITE_LINE, REDUCE, DROPPED_PROOF, SALVAGE, SALVAGE_LISTING, CAMPAIGN] {
             all.push(Case { room: ROOM - 1, ..case(operation, profile, &[], &[]) });
         }
     }
@@ -219,6 +221,7 @@ fn every_operation(all: &mut Vec<Case>, profile: &[u8]) {
     all.push(case(TRIM, profile, &question, &proof));
     all.push(case(SALVAGE, profile, &[], &root));
     all.push(case(SALVAGE_LISTING, profile, &[], &root));
+    all.push(case(CAMPAIGN, profile, b"s\n", &framed(&[Some(root)])));
 }
 
 fn path_limits(all: &mut Vec<Case>) {
@@ -557,8 +560,40 @@ fn damaged_exports(all: &mut Vec<Case>) {
             let bytes: Vec<u8> = (0..3).flat_map(|at| node_record(&nodes[at], NODE_KINDS[chosen >> at & 1])).collect();
             (0..=bytes.len()).for_each(|end| salvage(all, &profile, &bytes[..end], &[0]));
         }
-        let nodes = [(NONE, ROOT, 0), (2, 3, 7), (0, 2, 0), (2, 3, 7), (2, 3, 8)].map(|(parent, label, value)| Node { parent, label, value });
+        let before = [(NONE, ROOT, 0), (2, 3, 7), (0, 2, 0), (2, 3, 7), (2, 3, 8)];
+        let nodes = before.map(|(parent, label, value)| Node { parent, label, value });
         salvage(all, &profile, &write_tree(&nodes, NODE_KIND), &[0]);
+    }
+}
+
+/// Lists with as many names as there may be, and about as many, that end in a newline and do not; of trees that keep and break a key, are
+/// refused, or are not read.
+fn campaigns(all: &mut Vec<Case>) {
+    let key = Key { context: vec![], target: vec![2], paths: vec![vec![3]] };
+    let profile = [labels(3, 0), key_record(&key), key_record(&key_of(0, 1, &[0]))].concat();
+    let node = |parent: u16, label: u8, value: u32| Node { parent, label, value };
+    let twins = [node(NONE, ROOT, 0), node(0, 2, 0), node(1, 3, 7), node(0, 2, 0), node(3, 3, 7)];
+    let segments = [
+        Some(write_tree(&twins, NODE_KIND)),
+        Some(write_tree(&twins[..3], WIDE_NODE_KIND)),
+        Some(write_tree(&twins, WIDE_NODE_KIND)[..30].to_vec()),
+        Some(write_tree(&twins[1..], NODE_KIND)),
+        Some(Vec::new()),
+        None,
+    ];
+    for count in [0, 1, 2, 6, 12, CAMPAIGN_NAMES - 1, CAMPAIGN_NAMES, CAMPAIGN_NAMES + 1] {
+        let names: Vec<String> = (0..count).map(|at| format!("s{}", at % segments.len())).collect();
+        let inputs: Vec<Option<Vec<u8>>> = (0..count).map(|at| segments[at % segments.len()].clone()).collect();
+        for end in ["", "\n", "\n\n", "\r\n"] {
+            let list = names.join("\n") + end;
+            for profile in [&profile[..], &labels(3, 0), &[], &[9]] {
+                all.push(case(CAMPAIGN, profile, list.as_bytes(), &framed(&inputs)));
+            }
+        }
+    }
+    let inputs = framed(&segments);
+    for end in 0..=inputs.len() {
+        all.push(case(CAMPAIGN, &profile, b"s\n", &inputs[..end]));
     }
 }
 
@@ -566,7 +601,7 @@ type Maker = fn(&mut Random, &Asked) -> Case;
 
 /// How many random cases of all of them together each maker makes: as many as give each verdict its minimum
 /// (differential/counts.rs), and more where cases that look right go wrong.
-const SHARES: [(usize, Maker); 15] = [
+const SHARES: [(usize, Maker); 16] = [
     (6, rewrite_case),
     (9, body_case),
     (13, include_case),
@@ -582,6 +617,7 @@ const SHARES: [(usize, Maker); 15] = [
     (6, write_line_case),
     (7, salvage_case),
     (9, salvage_listing_case),
+    (3, campaign_case),
 ];
 
 fn random_case(random: &mut Random, asked: &Asked) -> Case {
@@ -679,6 +715,33 @@ fn write_line_case(_: &mut Random, asked: &Asked) -> Case {
 
 /// Most damaged exports are small.
 const EXPORT_NODES: usize = 40;
+
+/// So many nodes at most has a segment of a campaign, so many segments has most of them, and so many keys are asked of each.
+const SEGMENT_NODES: usize = 20;
+const SEGMENTS: usize = 8;
+const CAMPAIGN_KEYS: usize = 8;
+
+/// Up to four files, of which some cannot be read and some are damaged, named in any order and again; a key of the profile holds on to the
+/// first.
+fn campaign_case(random: &mut Random, asked: &Asked) -> Case {
+    let mut profile = asked.profile.clone();
+    profile.keys.truncate(CAMPAIGN_KEYS);
+    let mut files: Vec<Option<Vec<u8>>> = Vec::new();
+    for _ in 0..1 + random.below(4) {
+        let (nodes, bytes) = export(random, asked, SEGMENT_NODES);
+        let near = key_on(random, &asked.world, &nodes);
+        if files.is_empty() && !profile.keys.contains(&near) {
+            profile.keys.push(near);
+        }
+        let sound = write_tree(&nodes, WIDE_NODE_KIND);
+        files.push(random.one_of(&[None, Some(Vec::new()), Some(bytes.clone()), Some(bytes), Some(sound.clone()), Some(sound)]));
+    }
+    let named: Vec<usize> = (0..random.below(SEGMENTS + 1)).map(|_| random.below(files.len())).collect();
+    let list: Vec<String> = named.iter().map(|at| format!("s{}", at)).collect();
+    let inputs: Vec<Option<Vec<u8>>> = named.iter().map(|&at| files[at].clone()).collect();
+    let end = if list.is_empty() || random.chance(1, 2) { "" } else { "\n" };
+    case(CAMPAIGN, &write_profile(&profile), (list.join("\n") + end).as_bytes(), &framed(&inputs))
+}
 
 fn salvage_case(random: &mut Random, asked: &Asked) -> Case {
     let most = if random.chance(1, 200) { TREE_NODES } else { EXPORT_NODES };

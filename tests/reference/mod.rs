@@ -5,12 +5,13 @@
 //! paths: words, joins, validity, inclusion · records: the inputs, checked from the front ·
 //! trees: value equality, keys kept · witness: why a key is broken · rules: proof lines · decide: pattern, verdict, evidence ·
 //! reduce: lean profiles · listing: blocks of lines · trim: shorter proofs · text: keys in plain text ·
-//! salvage: what is left of a damaged tree ·
+//! salvage: what is left of a damaged tree · campaign: counts over a list of trees ·
 //! operations: the public operations with all refusals in 01's order ·
 //! generate, damage, derivations, typing, exports: random and damaged inputs · refute: trees against an implied question ·
 //! cases, stream: the cases of a run and their frames.
 #![allow(dead_code)]
 
+pub mod campaign;
 pub mod cases;
 pub mod damage;
 pub mod decide;
@@ -44,14 +45,14 @@ static WRONG: AtomicUsize = AtomicUsize::new(0);
 
 /// What each wrong line does, by its number less one, and the operations of whose answers in the
 /// stream of seed 1 it changes some.
-pub const WRONG_LINES: [(&[u8], &str); 31] = [
+pub const WRONG_LINES: [(&[u8], &str); 33] = [
     (
-        &[INCLUDE, KEEP, CHECK_PROOF, CHECK_TREE, DECIDE, REDUCE, DROPPED_PROOF, TRIM, SALVAGE_LISTING],
+        &[INCLUDE, KEEP, CHECK_PROOF, CHECK_TREE, DECIDE, REDUCE, DROPPED_PROOF, TRIM, SALVAGE_LISTING, CAMPAIGN],
         "membership: an any-path consumes at least one label",
     ),
     (&[INCLUDE], "inclusion: 201 and 202 are left out of the labels"),
-    (&[KEEP, CHECK_TREE, SALVAGE_LISTING], "value equality: attributes and other children are one list"),
-    (&[KEEP, CHECK_TREE, SALVAGE_LISTING], "tree test: two targets need only one key path in common"),
+    (&[KEEP, CHECK_TREE, SALVAGE_LISTING, CAMPAIGN], "value equality: attributes and other children are one list"),
+    (&[KEEP, CHECK_TREE, SALVAGE_LISTING, CAMPAIGN], "tree test: two targets need only one key path in common"),
     (&[CHECK_PROOF, DECIDE, DROPPED_PROOF, TRIM], "rule 8 wants two key paths in the premise"),
     (&[CHECK_PROOF, TRIM], "rule 9 does not look at the second premise's context"),
     (&[DECIDE, REDUCE], "pattern: with the empty path, t alone is marked and not what lies below"),
@@ -73,17 +74,18 @@ pub const WRONG_LINES: [(&[u8], &str); 31] = [
             TRIM,
             SALVAGE,
             SALVAGE_LISTING,
+            CAMPAIGN,
         ],
         "records: 5 is given before 4",
     ),
     (&[LIST, SALVAGE_LISTING], "listing: a block has 1,023 lines"),
     (&[CHECK_TREE], "counterexample check: the first profile key alone is tried"),
     (&[BODY], "body: the first record has number 1"),
-    (&[KEEP, CHECK_TREE, SALVAGE_LISTING], "value equality: attributes in table order"),
-    (&[KEEP, CHECK_TREE, SALVAGE_LISTING], "value equality: values compared in their low two bytes"),
+    (&[KEEP, CHECK_TREE, SALVAGE_LISTING, CAMPAIGN], "value equality: attributes in table order"),
+    (&[KEEP, CHECK_TREE, SALVAGE_LISTING, CAMPAIGN], "value equality: values compared in their low two bytes"),
     (&[CHECK_PROOF, TRIM], "rule 10 in edition 1"),
-    (&[KEEP, CHECK_TREE, LIST, SALVAGE, SALVAGE_LISTING], "16 only for declared labels: 202 may be repeated"),
-    (&[DECIDE, REDUCE], "pattern of edition 2: an attribute steps to its parent only if that is q"),
+    (&[KEEP, CHECK_TREE, LIST, SALVAGE, SALVAGE_LISTING, CAMPAIGN], "16 only for declared labels: 202 may be repeated"),
+    (&[DECIDE, REDUCE, DROPPED_PROOF], "pattern of edition 2: an attribute steps to its parent only if that is q"),
     (
         &[
             REWRITE,
@@ -101,6 +103,7 @@ pub const WRONG_LINES: [(&[u8], &str); 31] = [
             TRIM,
             SALVAGE,
             SALVAGE_LISTING,
+            CAMPAIGN,
         ],
         "15 looks at the key before alone",
     ),
@@ -116,6 +119,8 @@ pub const WRONG_LINES: [(&[u8], &str); 31] = [
     (&[SALVAGE, SALVAGE_LISTING], "salvage: parents are read as new numbers"),
     (&[SALVAGE, SALVAGE_LISTING], "salvage: a dropped attribute counts for 16"),
     (&[SALVAGE, SALVAGE_LISTING], "salvage: stops at 2"),
+    (&[CAMPAIGN], "campaign: a refused segment counts as broken"),
+    (&[CAMPAIGN], "campaign: a repeated name counts once"),
 ];
 
 pub fn choose_wrong_line(number: usize) {

@@ -1,5 +1,6 @@
 //! The public operations on bytes, with every refusal in 01's order: 14, then profile, question,
 //! tree or proof; then 10, or 12 before 13. 11 is retired (02, request 8) and never given.
+use super::campaign::reported;
 use super::decide::{counterexample, proof, verdict, Pattern, Verdict};
 use super::listing::block;
 use super::paths::is_included;
@@ -189,4 +190,10 @@ pub fn list_salvage(profile: &[u8], tree: &[u8], k: u64, answer: usize) -> Resul
     check_answer(answer)?;
     let profile = read_profile(profile)?;
     Ok(salvage_block(&salvaged(tree, &profile)?, &profile, k))
+}
+
+/// The report of a campaign (02, request 12): the names, the profile, and the inputs in the names' order (`campaign::framed`).
+pub fn report(list: &[u8], profile: &[u8], segments: &[u8], answer: usize) -> Result<Vec<u8>, Refusal> {
+    check_answer(answer)?;
+    reported(list, profile, segments)
 }

@@ -2,7 +2,7 @@
 //!
 //! A frame: operation (1 byte), then, 4 bytes each and little-endian, number (record of a body, block of
 //! a listing of either kind, key of a dropped proof), room (size of the answer buffer that is lent), three lengths; then the three inputs:
-//! profile; question, first path or line; tree, proof or second path.
+//! profile; question, first path, line or list of names; tree, proof, second path or the segments of a campaign (`campaign::framed`).
 //!
 //! An answer: a line, the same that the programs print (`refused N I R`, `implied BYTES`, `kept`, `broken Q A B X Y ..`, ..),
 //! with `body BYTES`, `listed BYTES` and `reduced 0,2 BYTES` besides (the numbers of the dropped keys, `-` for none); where it ends in
@@ -27,8 +27,9 @@ pub const DROPPED_PROOF: u8 = 12;
 pub const TRIM: u8 = 13;
 pub const SALVAGE: u8 = 14;
 pub const SALVAGE_LISTING: u8 = 15;
+pub const CAMPAIGN: u8 = 16;
 /// By number; one that is not taken has no name.
-pub const OPERATIONS: [&str; 16] = [
+pub const OPERATIONS: [&str; 17] = [
     "",
     "rewrite",
     "body",
@@ -45,6 +46,7 @@ pub const OPERATIONS: [&str; 16] = [
     "trim",
     "salvage",
     "salvage listing",
+    "campaign",
 ];
 
 #[derive(Clone)]
@@ -78,8 +80,20 @@ pub fn write_answer(out: &mut dyn Write, answer: &Answer) -> std::io::Result<()>
 }
 
 /// Words of a line that ends in a number of bytes, which follow it.
-pub const WITH_BYTES: [&str; 11] =
-    ["rewritten ", "body ", "listed ", "implied ", "not implied ", "reduced ", "proof ", "trimmed ", "key ", "text ", "salvaged "];
+pub const WITH_BYTES: [&str; 12] = [
+    "rewritten ",
+    "body ",
+    "listed ",
+    "implied ",
+    "not implied ",
+    "reduced ",
+    "proof ",
+    "trimmed ",
+    "key ",
+    "text ",
+    "salvaged ",
+    "reported ",
+];
 
 /// The next answer of a stream; none where it ends or breaks off.
 pub fn read_answer(stream: &mut dyn BufRead) -> Option<Answer> {
@@ -154,6 +168,7 @@ pub fn answer(case: &Case) -> Answer {
         TRIM => trim(a, b, c, room).map(|bytes| with_bytes("trimmed", bytes)),
         SALVAGE => salvage(a, c, room).map(|bytes| with_bytes("salvaged", bytes)),
         SALVAGE_LISTING => list_salvage(a, c, number as u64, room).map(|bytes| with_bytes("listed", bytes)),
+        CAMPAIGN => report(b, a, c, room).map(|bytes| with_bytes("reported", bytes)),
         _ => decide(a, b, room).map(|decision| match decision {
             Decision::Implied(proof) => with_bytes("implied", proof),
             Decision::NotImplied(tree) => with_bytes("not implied", tree),

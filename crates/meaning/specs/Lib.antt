@@ -14,3 +14,5 @@ pub mod Reduction
 pub mod Trimming
 pub mod Text
 pub mod Salvage
+pub mod Campaign
+pub mod Tally

@@ -32,7 +32,7 @@ pub enum Next {
     Nothing,
 }
 
-fn wide(x: u8) -> usize
+pub fn wide(x: u8) -> usize
     ensures { λ r. ⌜ r < 256 ⌝ }
 {
     x as usize

@@ -9,8 +9,13 @@ use op_answers::Filling;
 use op_answers::Inclusion;
 use op_answers::Listing;
 use op_answers::Rewriting;
+use op_campaign::count_segment;
+use op_campaign::report;
 use op_list::list_block;
 use op_proof::check_proof;
+use op_tally::Tally;
+use op_tally::count_unread;
+use op_tally::no_counts;
 use op_tree::check_counterexample;
 use op_trim::trim;
 use program_files::print;
@@ -27,6 +32,10 @@ use test_frames::cases::read_inputs;
 use test_frames::lent::fill;
 use test_frames::lent::filled;
 use test_frames::lent::refused;
+use test_frames::segments::SEGMENT_HEAD;
+use test_frames::segments::UNREAD;
+use test_frames::segments::segment_end;
+use test_frames::segments::segment_length;
 
 const REWRITE: u8 = 1;
 
@@ -57,6 +66,8 @@ const TRIM: u8 = 13;
 const SALVAGE: u8 = 14;
 
 const SALVAGE_LISTING: u8 = 15;
+
+const CAMPAIGN: u8 = 16;
 
 // No input of the stream is longer than a question of two whole records, and there are three.
 const INPUTS_ROOM: usize = 393216;
@@ -142,6 +153,27 @@ fn reduce(profile: &[u8], answer: &mut [u8]) {
     }
 }
 
+// One input of a campaign more: the bytes of a segment, or a name that cannot be read.
+fn count_one(profile: &[u8], bytes: usize, segment: &[u8], tally: Tally) -> Tally {
+    if bytes == UNREAD {
+        return count_unread(tally);
+    }
+    count_segment(profile, segment, tally)
+}
+
+fn count_all(profile: &[u8], framed: &[u8]) -> Tally {
+    let mut tally = no_counts();
+    let mut at = 0;
+    while framed.len() - at >= SEGMENT_HEAD {
+        let bytes = segment_length(framed, at);
+        let from = at + SEGMENT_HEAD;
+        let end = segment_end(framed, from, bytes);
+        tally = count_one(profile, bytes, input(framed, from, end), tally);
+        at = end;
+    }
+    tally
+}
+
 // The operations of 02 that fill an answer buffer: one `if` for each.
 fn answer_request(case: Case, first: &[u8], second: &[u8], third: &[u8], answer: &mut [u8]) {
     if case.operation == READ_LINE {
@@ -170,6 +202,10 @@ fn answer_request(case: Case, first: &[u8], second: &[u8], third: &[u8], answer:
     if case.operation == SALVAGE_LISTING {
         let listed = op_salvage_list::salvage_block(first, third, case.number, answer);
         return filling(b"listed", listed, answer);
+    }
+    if case.operation == CAMPAIGN {
+        let reported = report(second, first, count_all(first, third), answer);
+        return filling(b"reported", reported, answer);
     }
     not_here();
 }

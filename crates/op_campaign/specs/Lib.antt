@@ -1,0 +1,4 @@
+pub mod Marks
+pub mod Segments
+pub mod Reporting
+pub mod One
