@@ -16,19 +16,7 @@ fail() {
     exit 1
 }
 
-# install PACKAGE..: what is missing of Debian's packages.
-install() {
-    missing=
-    for package in "$@"; do
-        dpkg -s "$package" >/dev/null 2>&1 || missing="$missing $package"
-    done
-    [ -n "$missing" ] || return 0
-    echo "measure: installing$missing" >&2
-    apt-get update >"$work/apt.log" 2>&1 || true
-    # shellcheck disable=SC2086
-    DEBIAN_FRONTEND=noninteractive apt-get install -y --no-install-recommends $missing >>"$work/apt.log" 2>&1 ||
-        fail "apt-get could not install$missing: $work/apt.log"
-}
+. tests/x86_tools.sh
 
 # xmllint for the same processor: the package itself cannot stand beside this machine's own, so it is only unpacked.
 foreign_xmllint() {
@@ -39,20 +27,31 @@ foreign_xmllint() {
     xmllint=$work/xmllint/usr/bin/xmllint
 }
 
-# Sets rustc, its flags, the emulator (none on x86-64) and xmllint.
+# Sets rustc, its flags, cc, the emulator (none on x86-64) and xmllint.
 prepare() {
     if [ "$(uname -m)" = x86_64 ]; then
-        command -v rustc >/dev/null 2>&1 || install rustc gcc libc6-dev
+        prepare_rust
+        prepare_c
         command -v xmllint >/dev/null 2>&1 || install libxml2-utils
-        rustc=rustc flags='' emulator='' xmllint=xmllint
+        flags='' xmllint=xmllint
         return
     fi
     dpkg --print-foreign-architectures | grep -qx amd64 || dpkg --add-architecture amd64
-    install gcc-x86-64-linux-gnu libc6-dev-amd64-cross rustc libstd-rust-dev:amd64 libc6:amd64 libxml2:amd64 qemu-user
+    prepare_c
+    install rustc libstd-rust-dev:amd64 libc6:amd64 libxml2:amd64
     # Debian's own compiler has a library for x86-64; another one that stands earlier on the path need not.
-    rustc=/usr/bin/rustc emulator=qemu-x86_64
+    rustc=/usr/bin/rustc
     flags='--target x86_64-unknown-linux-gnu -C linker=x86_64-linux-gnu-gcc'
     foreign_xmllint
+}
+
+# The stack of the three calls for C, by the program that tests/calls.sh holds to the stream: on standard error, since its answers go nowhere.
+calls() {
+    rt staticlib tap >"$work/staticlib.log" 2>&1 || fail "rt staticlib tap: $work/staticlib.log"
+    "$cc" -std=c99 -O2 -Iinclude -Itests/calls -static -o "$work/calls" tests/calls/stream.c -Ltarget/staticlib -ltap ||
+        fail "tests/calls/stream.c does not compile"
+    measure frames >"$work/frames"
+    $emulator "$work/calls" <"$work/frames" 2>&1 >"$work/called" || fail "a call takes more stack than culvertecho.h says"
 }
 
 build() {
@@ -111,4 +110,5 @@ measure stacks >"$work/stacks"
 cat "$work/stacks"
 echo
 limits
+calls
 echo "load after:$(uptime | sed 's/.*load average//')"

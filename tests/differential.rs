@@ -8,11 +8,15 @@
 //! differential evidence SEED COUNT FOUND        the check cases of the evidence in the file of answers
 //! differential accepted SEED COUNT FOUND FOLDER reads answers to them: each has to be accepted
 //! differential wrong SEED COUNT                 reads answers: each wrong line of the reference is caught
+//! differential calls SEED COUNT                 the stream that tests/calls/stream.c reads: the three calls for C alone
+//! differential told SEED COUNT FOLDER           reads answers to them: each has to be what the details can say
 //! differential self SEED COUNT                  what must hold within the reference itself
 //! differential sample cases                     a case of each outcome: `replay`'s own file stdin
 //! differential sample answers                   reads answers to them and writes them, if all are right: its stdout
 //!
 //! COUNT random cases follow the fixed ones. reference/stream.rs has the format.
+#[path = "differential/calls.rs"]
+mod calls;
 #[path = "differential/consistency.rs"]
 mod consistency;
 #[path = "differential/counts.rs"]
@@ -105,7 +109,7 @@ fn write_answers(cases: impl Iterator<Item = Case>) -> Result<bool> {
 }
 
 fn usage() -> Result<bool> {
-    eprintln!("usage: differential cases|answers|compare|evidence|accepted|wrong|self SEED COUNT .., or sample cases|answers");
+    eprintln!("usage: differential cases|answers|compare|evidence|accepted|wrong|calls|told|self SEED COUNT .., or sample cases|answers");
     Ok(false)
 }
 
@@ -126,6 +130,8 @@ fn run(words: &[&str]) -> Result<bool> {
             Ok(is_accepted(check_cases, &mut stdin().lock(), &mut Differences::new(folder)))
         }
         ["wrong", _, _] => Ok(wrong_lines::are_caught(seed, count, &mut stdin().lock())),
+        ["calls", _, _] => write_cases(calls::call_cases(seed, count)),
+        ["told", _, _, folder] => Ok(calls::are_told(seed, count, &mut stdin().lock(), &mut Differences::new(folder))),
         ["self", _, _] => Ok(spelling::is_one() && consistency::is_consistent(seed, count)),
         _ => usage(),
     }

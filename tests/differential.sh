@@ -26,13 +26,8 @@ fail() {
 }
 
 # Debian's rustc serves where there is none; without any the run fails.
-if ! command -v rustc >/dev/null 2>&1; then
-    echo "differential: no rustc here: installing Debian's"
-    apt-get update >"$work/apt.log" 2>&1 || true
-    DEBIAN_FRONTEND=noninteractive apt-get install -y --no-install-recommends rustc gcc libc6-dev >>"$work/apt.log" 2>&1 ||
-        fail "no rustc, and apt-get could not install it: $work/apt.log"
-fi
-rustc=$(command -v rustc) || fail "no rustc"
+. tests/x86_tools.sh
+prepare_rust
 echo "differential: $("$rustc" --version), seed $seed, $count random cases"
 
 build() {

@@ -6,6 +6,15 @@ root=$(CDPATH='' cd -- "$(dirname -- "$0")/.." && pwd)
 cd "$root"
 work=target/tests/readme
 rm -rf "$work" target/none target/trace
+mkdir -p "$work"
+
+fail() {
+    echo "readme: $*" >&2
+    exit 1
+}
+
+. tests/x86_tools.sh
+prepare_c
 
 # run PAGE LEAST: each command into a file of its own, with what it has to print beside it
 run() {
@@ -21,6 +30,11 @@ run() {
     ' "$page"
     n=1
     while [ -f "$work/$n.command" ]; do
+        # On another machine neither `cc` nor `nm` knows the library's objects: there tests/calls.sh builds and runs the example.
+        if grep -qE '^(cc|nm) ' "$work/$n.command" && [ "$(uname -m)" != x86_64 ]; then
+            n=$((n + 1))
+            continue
+        fi
         sh "$work/$n.command" >"$work/$n.found" 2>"$work/$n.errors" || true
         if ! cmp -s "$work/$n.wanted" "$work/$n.found"; then
             echo "readme: $page: $(cat "$work/$n.command")" >&2

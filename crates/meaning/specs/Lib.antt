@@ -16,3 +16,4 @@ pub mod Text
 pub mod Salvage
 pub mod Campaign
 pub mod Tally
+pub mod Calls
