@@ -155,6 +155,23 @@ ChecksProof profile question proof =
     []
     (ProofJudged (singleIn profile) (labelsIn profile) (keysIn profile) (questionIn question) (proofWalked (labelsIn profile) proof))
 
+-- An operation that takes an accepted proof and fills the answer buffer with these bytes. 14 comes first; "A proof that is not accepted is refused
+-- with the checker's number" (02, request 10)
+unfoldable pub ofChecked : Verdict → (bytes buffer : List ℕ) → Answer → Answer
+ofChecked v bytes buffer checked =
+    elim (checked .number) [
+      | zero ↦ filled v bytes buffer
+      | suc n ↦ refusedBy (record { number = suc n; input = checked .input; place = checked .place }) buffer
+    ]
+
+pub record OfProof (v : Verdict) (profile question proof bytes buffer : List ℕ) (answer : Answer) : Type 0 where
+  pub checked : Answer
+  pub checks : ChecksProof profile question proof checked
+  pub is : answer ≡ ofChecked v bytes buffer checked
+
+unfoldable pub FromProof : Verdict → (profile question proof bytes buffer : List ℕ) → Answer → Type 0
+FromProof v profile question proof bytes buffer = Unless (answerRefusal buffer ∷ []) buffer (OfProof v profile question proof bytes buffer)
+
 -- "check a counterexample": 12 "(input 1, as record the lowest such key number)" with that key's first witness, then 13; accepted with the
 -- question's first witness
 pub data CounterexampleJudged (profile question tree : List ℕ) (answer : Answer) : Type 0 where

@@ -14,7 +14,7 @@ use Rattle.meaning.specs.Records.{recordBody, keyIn}
 use Rattle.meaning.specs.Operations.{recordsFrom}
 use Rattle.theory_trees.specs.Witness.{FirstTargets}
 use Rattle.tree_search.specs.Best.{FirstBy}
-use Rattle.op_tree.specs.ProfileKeys.{keyBodyAt}
+use Rattle.op_tree_keys.specs.ProfileKeys.{keyBodyAt}
 
 pub record Mark (κ : ℕ → Class) (t : Table) (key : Key) (breaks : Bool) : Type 0 where
   pub yes : breaks ≡ true → Breaks κ t key

@@ -32,8 +32,8 @@ use Rattle.op_answers.specs.declared.Outcome.the-variants as O
 use Rattle.op_accept.specs.Taken.{ProfileTaken, Tables}
 use Rattle.tree_table.specs.FileTable.{fileTable, TreeBytes}
 use Rattle.tree_table.specs.Files.{class-same, file-table, tree-bytes}
-use Rattle.op_tree.specs.BothAccepted.{key-at}
-use Rattle.op_tree.specs.ProfileKeys.{keyBodyAt}
+use Rattle.op_tree_accepted.specs.BothAccepted.{key-at}
+use Rattle.op_tree_keys.specs.ProfileKeys.{keyBodyAt}
 use Rattle.op_tally.specs.Counting.{RefusedMore, KeysMore, Told}
 use Rattle.op_campaign.specs.Marks.{Marked}
 

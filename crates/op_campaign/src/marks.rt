@@ -12,7 +12,7 @@ ghost use Prim.Native.Nat.{_≤_};
 ghost use Rattle.tree_table.specs.FileTable.{fileTable, classBy};
 ghost use Rattle.tree_rows.specs.Prepared.{Prepared};
 ghost use Rattle.tree_search.specs.Start.{Lent};
-ghost use Rattle.op_tree.specs.ProfileKeys.{KeyBodies};
+ghost use Rattle.op_tree_keys.specs.ProfileKeys.{KeyBodies};
 ghost use Rattle.op_campaign.specs.Marks.{Marked};
 
 // The part is the profile from its first key on.

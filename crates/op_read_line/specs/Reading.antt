@@ -10,7 +10,7 @@ use Rattle.meaning.specs.Limits.{inProfile}
 use Rattle.meaning.specs.Paths.{Label}
 use Rattle.meaning.specs.Keys.{Key}
 use Rattle.meaning.specs.Records.{keyBytes}
-use Rattle.meaning.specs.Refusals.{firstOf, keyTests, firstEntry, behindEdition}
+use Rattle.meaning.specs.Refusals.{firstOf, keyTests}
 use Rattle.meaning.specs.Refusals as Table
 use Rattle.meaning.specs.Operations.{Answer, refusedBy, filled, recordsFrom, labelsIn, keyRead}
 use Rattle.meaning.specs.Text.{TextJudged, notALine, unknownName, badKey, isKey, ReadsLine}
@@ -19,10 +19,9 @@ use Rattle.theory_text.specs.Printing.{print-read, none-line}
 use Rattle.read_record.specs.Classes.{keyTestsBy}
 use Rattle.read_record.specs.Tables.{ByteKey, tests-tabled}
 use Rattle.read_inputs.specs.Accepted.{GivenProfile}
-use Rattle.read_inputs.specs.Labels.{labelsAt}
-use Rattle.read_inputs.specs.Repeats.{Standing}
-use Rattle.read_labels.specs.First.{first-is, entries-at}
-use Rattle.read_labels.specs.ProfileLabels.{profile-labels-are, profile-label-records}
+use Rattle.read_entry.specs.Labels.{labelsAt}
+use Rattle.read_entry.specs.Repeats.{Standing}
+use Rattle.read_labels.specs.LabelPart.{LabelPart, part-first, label-part}
 use Rattle.read_line.specs.Told.{LineTold, notLine, noName, isTyped}
 use Rattle.write_bytes.specs.Wrote.{Wrote, wrote-front}
 use Rattle.op_answers.specs.declared.Refusal.{Refusal}
@@ -52,30 +51,19 @@ pub ready-of : {profile classes : List ℕ} {o : Outcome} {second : Bool} {befor
 ready-of {keys = keys} taken x = record { keys = keys; given = taken .given x }
 
 module _ {profile classes : List ℕ} {second : Bool} {before : ℕ} (ready : LineReady profile second before classes) {first : ℕ} (e : first ≡ cond second 1 0) where
-  is-first : first ≡ firstEntry profile
-  is-first = first-is profile (ready .given .edition) e
-
   pub ready-first : first ≤ before
-  ready-first = let n = ready .given .beforeKeys in let m = is-first in omega arith
-
-  count : before - first ≡ length (labelsIn profile)
-  count = let n = ready .given .beforeKeys in let m = is-first in omega arith
+  ready-first = part-first profile (ready .given .edition) (ready .given .beforeKeys) e
 
   module _ {labels : List ℕ} (is : labels ≡ recordsFrom first profile) where
-    stand : labels ≡ behindEdition profile
-    stand = is ∙ (ap (λ (n : ℕ). recordsFrom n profile) is-first ∙ entries-at profile)
+    names : LabelPart profile labels (before - first)
+    names = label-part profile (ready .given .edition) (ready .given .beforeKeys) e is
 
     pub ready-standing : Standing 6 (before - first) labels
-    ready-standing =
-        subst (λ (l : List ℕ). Standing 6 (before - first) l) (sym stand)
-        (subst (λ (n : ℕ). Standing 6 n (behindEdition profile)) (sym count) (profile-label-records profile))
-
-    are : labelsAt (before - first) labels ≡ labelsIn profile
-    are = ap₂ labelsAt count stand ∙ profile-labels-are profile
+    ready-standing = names .stand
 
     module _ {line record-bytes : List ℕ} {number used : ℕ} (told : LineTold (labelsAt (before - first) labels) classes line record-bytes number used) where
       in-profile : LineTold (labelsIn profile) classes line record-bytes number used
-      in-profile = subst (λ (ls : List Label). LineTold ls classes line record-bytes number used) are told
+      in-profile = subst (λ (ls : List Label). LineTold ls classes line record-bytes number used) (names .are) told
 
       tests : (key : Key) → ByteKey key → keyTestsBy classes inProfile key ≡ keyTests (labelsIn profile) inProfile key
       tests key k = tests-tabled (ready .given .tabled) inProfile key k

@@ -14,9 +14,9 @@ use Rattle.meaning.specs.Salvage.{BrokenLines, judgedAll, keepsOne, breaksOne, 
 use Rattle.op_answers.specs.declared.Witness.{Witness}
 use Rattle.op_answers.specs.Cases.{numbersOf}
 use Rattle.tree_sorted.specs.GoodKey.{GoodKey}
-use Rattle.op_tree.specs.declared.keys.Tested.{Tested}
-use Rattle.op_tree.specs.declared.keys.Tested.the-variants as T
-use Rattle.op_tree.specs.ProfileKeys.{KeyTested, keyBodyAt}
+use Rattle.op_tree_keys.specs.declared.Tested.{Tested}
+use Rattle.op_tree_keys.specs.declared.Tested.the-variants as T
+use Rattle.op_tree_keys.specs.ProfileKeys.{KeyTested, keyBodyAt}
 use Rattle.write_salvage.specs.Blocks.{Window, Puts, puts-nothing}
 
 -- the line of key n: none where it is kept

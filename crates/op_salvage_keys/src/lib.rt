@@ -1,7 +1,7 @@
 // 02, request 7: "Keys are judged over what is left": a line for each profile key that a tree breaks, with its first witness.
 use op_profile::profiles::body_at_front;
-use op_tree::keys::Tested;
-use op_tree::keys::test_key;
+use op_tree_keys::Tested;
+use op_tree_keys::test_key;
 use read_record::limits::TREE_NODES;
 use read_walker::record_at;
 use tree_groups::prepare;
@@ -18,7 +18,7 @@ ghost use Rattle.tree_table.specs.FileTable.{fileTable, classBy, TreeBytes};
 ghost use Rattle.tree_rows.specs.Prepared.{Prepared};
 ghost use Rattle.tree_sorted.specs.GoodKey.{GoodKey};
 ghost use Rattle.tree_search.specs.Start.{Lent};
-ghost use Rattle.op_tree.specs.ProfileKeys.{KeyTested, keyBodyAt, KeyBodies};
+ghost use Rattle.op_tree_keys.specs.ProfileKeys.{KeyTested, keyBodyAt, KeyBodies};
 ghost use Rattle.write_salvage.specs.Blocks.{Puts};
 ghost use Rattle.op_salvage_keys.specs.Broken.{testedLines, KeysTold};
 

@@ -34,8 +34,8 @@ use Rattle.read_salvage.specs.Salvaging.{Salvaging, Kept}
 use Rattle.write_bytes.specs.Wrote.{wrote-front}
 use Rattle.write_salvage.specs.Blocks.{Window, shown, told, droppedLines, dropped-most}
 use Rattle.op_accept.specs.Taken.{ProfileTaken, Tables, profile-stops}
-use Rattle.op_tree.specs.ProfileKeys.{keyBodyAt}
-use Rattle.op_tree.specs.BothAccepted.{key-at}
+use Rattle.op_tree_keys.specs.ProfileKeys.{keyBodyAt}
+use Rattle.op_tree_accepted.specs.BothAccepted.{key-at}
 use Rattle.op_salvage_keys.specs.Broken.{keysTo, KeysTold}
 
 -- The first line of block k, where there are no more than twelve blocks

@@ -22,7 +22,7 @@ ghost use Rattle.meaning.specs.Salvage.{ListsSalvage};
 ghost use Rattle.read_inputs.specs.Accepted.{GivenProfile};
 ghost use Rattle.op_accept.specs.Taken.{Tables};
 ghost use Rattle.op_answers.specs.Cases.{fillingAnswer};
-ghost use Rattle.op_tree.specs.ProfileKeys.{KeyBodies};
+ghost use Rattle.op_tree_keys.specs.ProfileKeys.{KeyBodies};
 ghost use Rattle.op_salvage_list.specs.Listing.{Starts};
 
 // The first line, 11,264 records and 64 keys are lines of twelve blocks.

@@ -1,4 +1,1 @@
-pub mod ProfileKeys
-pub mod Inputs
-pub mod BothAccepted
 pub mod One

@@ -12,12 +12,11 @@ use Rattle.meaning.specs.Lists.{keep}
 use Rattle.meaning.specs.Rules.{Line, lineKeys, EndsWith, Accepted}
 use Rattle.meaning.specs.Records.{lineBytes}
 use Rattle.meaning.specs.Refusals.{questionIn}
-use Rattle.meaning.specs.Refusals as Table
-use Rattle.meaning.specs.Operations.{recordsFrom, singleIn, labelsIn, keysIn, ChecksProof, refusedBy, filled, trimmed}
+use Rattle.meaning.specs.Operations.{recordsFrom, singleIn, labelsIn, keysIn, ChecksProof, refusedBy, trimmed}
 use Rattle.meaning.specs.Trimming.{earliest, pointed, withPremises, premises, lineAt, needed, placeIn, trimmedLines, trimmedProof, Trims}
 use Rattle.theory_lists.specs.Bools.{true-of}
 use Rattle.theory_trees.specs.Children.{keep-mem}
-use Rattle.rule_lines.specs.Premises.{linesFrom}
+use Rattle.rule_premises.specs.Premises.{linesFrom}
 use Rattle.theory_lists.specs.Logic.{found-below}
 use Rattle.theory_derive.specs.Accept.{line-keys-length}
 use Rattle.theory_trim.specs.Firsts.{pointed-is}
@@ -26,17 +25,17 @@ use Rattle.theory_trim.specs.Premises.{changes-alike}
 use Rattle.theory_trim.specs.Trimmed.{premise-before, stay-needs, pointed-stays, is-map}
 use Rattle.theory_trim.specs.Marks.{Marking, needed-marked, place-marked}
 use Rattle.theory_trim.specs.TrimmedBytes.{ProofSound, proof-sound, trimmed-fits}
-use Rattle.theory_trim.specs.TrimAnswers.{trims-small, trims-refused, trims-filled}
-use Rattle.write_bytes.specs.Wrote.{Wrote, wrote-front}
+use Rattle.write_bytes.specs.Wrote.{Wrote}
 use Rattle.op_answers.specs.declared.Refusal.{Refusal}
 use Rattle.op_answers.specs.declared.Checking.{Checking}
 use Rattle.op_answers.specs.declared.Checking.the-variants as C
 use Rattle.op_answers.specs.Cases.{meant, usedOf, checkingAnswer}
-use Rattle.op_trim.specs.Standing.{Proved, Standing, line-here, count-is, lines-found, line-read}
-use Rattle.op_trim.specs.Pointing.{Pointing}
-use Rattle.op_trim.specs.Marked.{Linked, end-low, few-lines, known-line}
-use Rattle.op_trim.specs.Numbering.{NumberedTo, marksBefore}
-use Rattle.op_trim.specs.Putting.{moves, movedLine, keptBytes, Writable}
+use Rattle.op_proof.specs.Taking.{return-small, return-refused, return-filled}
+use Rattle.rule_stands.specs.Standing.{Proved, Standing, line-here, count-is, lines-found, line-read}
+use Rattle.rule_stands.specs.Pointing.{Pointing}
+use Rattle.rule_needed.specs.Marked.{Linked, end-low, few-lines, known-line}
+use Rattle.rule_needed.specs.Numbering.{NumberedTo, marksBefore}
+use Rattle.write_trimmed.specs.Putting.{moves, movedLine, keptBytes, Writable}
 
 -- what was found of a proof that the check accepts
 module _ {count : ℕ} {proof at : List ℕ} (s : Standing count proof at) (ended : recordsFrom count proof ≡ []) {profile question : List ℕ}
@@ -160,14 +159,14 @@ module _ {count : ℕ} {proof at : List ℕ} (s : Standing count proof at) (ende
 -- 14, before all else
 pub trim-small : (profile question proof buffer : List ℕ) (r : Refusal) → length buffer < 65536 → meant r ≡ record { number = 14; input = 4; place = 0 }
     → Trims profile question proof buffer (refusedBy (meant r) buffer)
-trim-small profile question proof buffer r h e =
-    subst (λ (x : Table.Refusal). Trims profile question proof buffer (refusedBy x buffer)) (sym e) (trims-small profile question proof buffer h)
+unfolding Trims
+trim-small profile question proof buffer = return-small trimmed profile question proof (trimmedProof profile question proof) buffer
 
 module _ (profile question proof buffer : List ℕ) (room : 65536 ≤ length buffer) {k : Checking} (checked : ChecksProof profile question proof (checkingAnswer k)) where
   -- the check's own refusal
   pub trim-refused : {r : Refusal} → k ≡ C.Refused r → Trims profile question proof buffer (refusedBy (meant r) buffer)
-  trim-refused {r} e =
-      trims-refused profile question proof buffer room (meant r) (subst (λ (x : Checking). ChecksProof profile question proof (checkingAnswer x)) e checked)
+  unfolding Trims
+  trim-refused e = return-refused trimmed profile question proof (trimmedProof profile question proof) buffer room checked e
 
   module _ (e : k ≡ C.Accepted) where
     sound-proof : ProofSound profile question proof
@@ -179,8 +178,6 @@ module _ (profile question proof buffer : List ℕ) (room : 65536 ≤ length buf
     pub trim-filled : {after : List ℕ} {used : ℕ}
         → ((p q : List ℕ) → ProofSound p q proof → Wrote buffer after 0 (trimmedProof p q proof) used)
         → Trims profile question proof buffer (usedOf trimmed used after)
-    unfolding filled
+    unfolding Trims
     trim-filled wrote =
-        let w = wrote-front (wrote profile question sound-proof) in
-        subst (Trims profile question proof buffer) (ap₂ (λ (n : ℕ) (b : List ℕ). usedOf trimmed n b) (sym (w .0)) (sym (w .1)))
-        (trims-filled profile question proof buffer room (subst (λ (x : Checking). ChecksProof profile question proof (checkingAnswer x)) e checked))
+        return-filled trimmed profile question proof (trimmedProof profile question proof) buffer room checked e (wrote profile question sound-proof)

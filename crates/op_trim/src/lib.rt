@@ -1,21 +1,15 @@
 // Shorter proofs (02, request 10): "a trimming pass that takes an accepted proof". Lines are looked at where they stand: no part of the proof is
 // copied but into the answer buffer.
-pub mod firsts;
-pub mod marks;
-pub mod numbers;
-pub mod puts;
-pub mod stands;
-
-use crate::firsts::find_firsts;
-use crate::marks::find_needed;
-use crate::numbers::find_numbers;
-use crate::puts::put_lines;
-use crate::stands::find_lines;
 use op_answers::ANSWER_BYTES;
 use op_answers::Checking;
 use op_answers::Filling;
 use op_answers::small_answer;
 use op_proof::check_proof;
+use rule_needed::marks::find_needed;
+use rule_needed::numbers::find_numbers;
+use rule_stands::firsts::find_firsts;
+use rule_stands::stands::find_lines;
+use write_trimmed::puts::put_lines;
 ghost use Prim.Native.Nat.{ℕ, _≤_};
 ghost use mathlib.Core.List.{List};
 ghost use lib.ListN.{length};
@@ -24,7 +18,7 @@ ghost use Rattle.meaning.specs.Trimming.{Trims, trimmedProof};
 ghost use Rattle.op_answers.specs.Cases.{fillingAnswer};
 ghost use Rattle.theory_trim.specs.TrimmedBytes.{ProofSound};
 ghost use Rattle.write_bytes.specs.Wrote.{Wrote};
-ghost use Rattle.op_trim.specs.Standing.{Proved};
+ghost use Rattle.rule_stands.specs.Standing.{Proved};
 
 // The trimmed proof at the front of the answer buffer: "keeps of several lines with equal keys only the earliest, points premises there, then ends
 // at the earliest line that has the question's key, removes lines from which that line is not reached through premises, and renumbers". The last

@@ -1,6 +1,6 @@
 -- The writer, one law for each return, over what the code has found there.
 use Prim.Native.Nat.{ℕ, _+_, _-_, _≤_, _<_}
-use mathlib.Core.Path.{_≡_, sym, _∙_, ap, ap₂, subst}
+use mathlib.Core.Path.{_≡_, sym, ap, ap₂, subst}
 use mathlib.Core.Bool.{Bool, true, cond}
 use mathlib.Core.List.{List}
 use native.Mathlib.Omega.{arith}
@@ -8,7 +8,7 @@ use lib.ListN.{length, take, drop}
 use Rattle.meaning.specs.Paths.{Label}
 use Rattle.meaning.specs.Keys.{Key}
 use Rattle.meaning.specs.Records.{recordBody, readKey, keyIn, isSome}
-use Rattle.meaning.specs.Refusals.{firstEntry, behindEdition, profileRefusal, questionRefusal, questionIn}
+use Rattle.meaning.specs.Refusals.{firstEntry, profileRefusal, questionRefusal, questionIn}
 use Rattle.meaning.specs.Refusals as Table
 use Rattle.meaning.specs.Operations.{refusedBy, filled, recordsFrom, labelsIn, secondIn, lineWritten}
 use Rattle.meaning.specs.Text.{WritesLine, printKey, typedOf}
@@ -17,10 +17,9 @@ use Rattle.theory_records.specs.Profiles.{LabelsRead, profile-accepts}
 use Rattle.theory_records.specs.Questions.{QuestionSound, question-accepts}
 use Rattle.theory_answers.specs.Refusing.{unless-small, unless-room, unless-sound, sound-end}
 use Rattle.theory_text.specs.Sizes.{line-fits}
-use Rattle.read_inputs.specs.Labels.{labelsAt}
-use Rattle.read_inputs.specs.Repeats.{Standing}
-use Rattle.read_labels.specs.ProfileLabels.{profile-labels-are, profile-label-records}
-use Rattle.read_labels.specs.First.{first-is, entries-at}
+use Rattle.read_entry.specs.Labels.{labelsAt}
+use Rattle.read_entry.specs.Repeats.{Standing}
+use Rattle.read_labels.specs.LabelPart.{LabelPart, part-first, label-part}
 use Rattle.op_answers.specs.declared.Refusal.{Refusal}
 use Rattle.op_answers.specs.declared.Outcome.{Outcome}
 use Rattle.op_answers.specs.declared.Outcome.the-variants as O
@@ -41,24 +40,18 @@ module _ {profile question : List ℕ} {second : Bool} {before : ℕ} (a : LineA
 
   module _ {first : ℕ} (f : first ≡ cond second 1 0) where
     pub first-low : first ≤ before
-    first-low = omega (arith, a .beforeKeys, first-is profile (a .edition) f)
-
-    count-is : before - first ≡ length (labelsIn profile)
-    count-is = omega (arith, a .beforeKeys, first-is profile (a .edition) f)
+    first-low = part-first profile (a .edition) (a .beforeKeys) f
 
     module _ {labels : List ℕ} (l : labels ≡ recordsFrom first profile) where
-      part-is : labels ≡ behindEdition profile
-      part-is = l ∙ (ap (λ (n : ℕ). recordsFrom n profile) (first-is profile (a .edition) f) ∙ entries-at profile)
+      names : LabelPart profile labels (before - first)
+      names = label-part profile (a .edition) (a .beforeKeys) f l
 
       pub labels-stand : Standing 6 (before - first) labels
-      labels-stand = rw (count-is, part-is) (profile-label-records profile)
-
-      labels-are : labelsAt (before - first) labels ≡ labelsIn profile
-      labels-are = rw (count-is, part-is) (profile-labels-are profile)
+      labels-stand = names .stand
 
       line-is : printKey (typedOf (labelsAt (before - first) labels) (keyIn (take (length question - 4) (drop 4 question))))
           ≡ printKey (typedOf (labelsIn profile) (questionIn question))
-      line-is = ap₂ (λ (ls : List Label) (k : Key). printKey (typedOf ls k)) labels-are key-is
+      line-is = ap₂ (λ (ls : List Label) (k : Key). printKey (typedOf ls k)) (names .are) key-is
         where
           key-is : keyIn (take (length question - 4) (drop 4 question)) ≡ questionIn question
           key-is = unfold questionIn recordBody in ap (λ (n : ℕ). keyIn (take (n - 4) (drop 4 question))) (sym (theKey .size))

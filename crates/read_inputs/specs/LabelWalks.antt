@@ -26,10 +26,10 @@ use Rattle.theory_records.specs.TreeFiles.{body-at}
 use Rattle.theory_records.specs.Judged.{profile-label-passes, room-left}
 use Rattle.theory_records.specs.Profiles.{profile-long, next-label}
 use Rattle.theory_records.specs.Walks.{walk-step, walk-stop}
-use Rattle.read_inputs.specs.Repeats.{Standing, none, standing-more}
-use Rattle.read_inputs.specs.Labels.{labelsAt, Highest, isClass}
-use Rattle.read_inputs.specs.Agree.{isLabelRecord}
-use Rattle.read_inputs.specs.KeyWalks.{labelled}
+use Rattle.read_entry.specs.Repeats.{Standing, none, standing-more}
+use Rattle.read_entry.specs.Labels.{labelsAt, Highest, isClass}
+use Rattle.read_entry.specs.Agree.{isLabelRecord}
+use Rattle.read_profile_keys.specs.KeyWalks.{labelled}
 
 -- one record more at the end of the labels read
 pub labels-more : (n : ℕ) (l : List ℕ) → labelsAt (suc n) l ≡ labelsAt n l ++ (readLabel (recordBody (recordsFrom n l)) ∷ [])

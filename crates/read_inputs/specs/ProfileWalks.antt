@@ -20,9 +20,9 @@ use Rattle.theory_records.specs.Heads.{whole-says, body-length}
 use Rattle.theory_records.specs.Encodings.{ends-edition}
 use Rattle.theory_records.specs.TreeFiles.{body-at}
 use Rattle.theory_records.specs.Profiles.{profile-accepts}
-use Rattle.read_inputs.specs.Labels.{labelsAt}
-use Rattle.read_inputs.specs.Agree.{isLabelRecord}
-use Rattle.read_inputs.specs.KeyWalks.{labelled, KeysCame, KeysSay}
+use Rattle.read_entry.specs.Labels.{labelsAt}
+use Rattle.read_entry.specs.Agree.{isLabelRecord}
+use Rattle.read_profile_keys.specs.KeyWalks.{labelled, KeysCame, KeysSay}
 use Rattle.read_inputs.specs.LabelWalks.{LabelLoop}
 
 -- The answer: the refusal for every byte string, and of an accepted profile the class table, its edition, and how many records stand before the keys

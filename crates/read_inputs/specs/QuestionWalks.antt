@@ -17,9 +17,9 @@ use Rattle.theory_records.specs.Bytes.{Bytes}
 use Rattle.theory_records.specs.Judged.{some-empty}
 use Rattle.theory_records.specs.Questions.{question-long}
 use Rattle.theory_records.specs.Walks.{walk-step, walk-stop, walk-end}
-use Rattle.read_inputs.specs.Keys.{keyRecordTestsBy}
-use Rattle.read_inputs.specs.Agree.{question-agrees}
-use Rattle.read_inputs.specs.KeyWalks.{key-here}
+use Rattle.read_entry.specs.Keys.{keyRecordTestsBy}
+use Rattle.read_entry.specs.Agree.{question-agrees}
+use Rattle.read_profile_keys.specs.KeyWalks.{key-here}
 use Rattle.theory_lists.specs.Bools.{and-false}
 
 pub question-empty : (labels : List Label) (bytes : List ℕ) → length bytes ≡ 0 → record { number = 1; input = 2; place = 0 } ≡ questionRefusal labels bytes

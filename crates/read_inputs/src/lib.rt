@@ -1,6 +1,3 @@
 // Whole inputs judged from the front (document 01, "Refusal numbers"): "In each input its size, then records from the front".
-pub mod keys;
-pub mod labels;
 pub mod profile;
 pub mod question;
-pub mod repeats;

@@ -1,12 +1,10 @@
 // A whole profile: its size, then its labels and its keys from the front.
-use crate::keys::judge_key;
-use crate::labels::good_label;
-use crate::repeats::part_used;
+use read_entry::labels::good_label;
 use read_judged::ACCEPTED;
 use read_judged::BAD_LABEL;
 use read_judged::Judged;
-use read_judged::KEY_TWICE;
 use read_judged::TOO_LARGE;
+use read_profile_keys::read_keys;
 use read_record::bodies::EDITION_KIND;
 use read_record::bodies::LABEL_KIND;
 use read_record::bodies::whole;
@@ -15,12 +13,10 @@ use read_record::fields::KIND_AT;
 use read_record::fields::wide;
 use read_record::fields::word;
 ghost use mathlib.Core.Path.{_≡_};
-ghost use mathlib.Core.Bool.{false};
 ghost use Prim.Native.Nat.{_≤_};
 ghost use Rattle.meaning.specs.Refusals.{hasEdition};
 ghost use lib.ListN.{length};
-ghost use Rattle.read_inputs.specs.Agree.{isLabelRecord};
-ghost use Rattle.read_inputs.specs.KeyWalks.{KeysSay};
+ghost use Rattle.read_entry.specs.Agree.{isLabelRecord};
 ghost use Rattle.read_inputs.specs.ProfileWalks.{ProfileSays, EntriesSay};
 
 // "profile 16,384 bytes"
@@ -35,40 +31,6 @@ const EDITION_IN_RECORD: usize = 4;
 const EDITION_BYTES: usize = 5;
 
 const SECOND_EDITION: usize = 2;
-
-// What the keys come to: the number of the first record that is refused (0: none), and how many keys stand before it.
-pub struct KeysRead {
-    pub number: usize,
-    pub keys: usize,
-}
-
-// The keys, from the first record that is no label's on. 15, "two equal keys", is asked of a key with no fault of its own.
-pub fn read_keys(bytes: &[u8], classes: &[u8; 256]) -> KeysRead
-    requires { ⌜ isLabelRecord (now bytes) ≡ false ⌝ }
-    ensures { λ r. ⌜ KeysSay (now (classes .entry)) (now (bytes .entry)) (r .number) (r .keys) ⌝ }
-{
-    let mut rest = bytes;
-    let mut keys = 0;
-    while 0 < rest.len() {
-        let number = judge_key(rest, keys, classes);
-        if number != ACCEPTED {
-            return KeysRead { number, keys };
-        }
-        let end = word(rest, 0);
-        if part_used(bytes, keys, HEAD_BYTES, &rest[HEAD_BYTES..end]) {
-            return KeysRead {
-                number: KEY_TWICE,
-                keys,
-            };
-        }
-        rest = &rest[end..];
-        keys += 1;
-    }
-    KeysRead {
-        number: ACCEPTED,
-        keys,
-    }
-}
 
 // What a profile comes to: the refusal; where there is none, the class of each label (0: not declared), whether it is of edition 2, how many records
 // stand before the keys, and how many keys there are.

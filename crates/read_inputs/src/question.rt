@@ -1,5 +1,5 @@
 // A whole question: "A question is one key record."
-use crate::keys::judge_key;
+use read_entry::keys::judge_key;
 use read_judged::ACCEPTED;
 use read_judged::Judged;
 use read_judged::NOT_ALLOWED;

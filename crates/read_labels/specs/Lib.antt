@@ -1,3 +1,4 @@
 pub mod ProfileLabels
 pub mod Named
 pub mod First
+pub mod LabelPart

@@ -14,9 +14,9 @@ use Rattle.meaning.specs.Lists.{same}
 use Rattle.meaning.specs.Records.{word, recordLength, recordBody, readLabel}
 use Rattle.meaning.specs.Text.{labelNamed}
 use Rattle.theory_records.specs.TreeFiles.{body-at}
-use Rattle.read_inputs.specs.Labels.{labelsAt, name-part}
-use Rattle.read_inputs.specs.Repeats
-use Rattle.read_inputs.specs.Repeats.{Standing}
+use Rattle.read_entry.specs.Labels.{labelsAt, name-part}
+use Rattle.read_entry.specs.Repeats
+use Rattle.read_entry.specs.Repeats.{Standing}
 
 -- a symbol, or 256 where there is none
 pub data Coded (o : Option ℕ) (r : ℕ) : Type 0 where

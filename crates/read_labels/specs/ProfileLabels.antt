@@ -15,8 +15,8 @@ use Rattle.theory_records.specs.Encodings.{ends-label}
 use Rattle.theory_records.specs.Judged.{LabelAccepted, KeyRecordAccepted, profile-accepted}
 use Rattle.theory_records.specs.Bodies.{records-next}
 use Rattle.theory_records.specs.Profiles.{length-more, next-label, next-key, profile-long}
-use Rattle.read_inputs.specs.Labels.{labelsAt}
-use Rattle.read_inputs.specs.Repeats.{Standing, none, standing-more}
+use Rattle.read_entry.specs.Labels.{labelsAt}
+use Rattle.read_entry.specs.Repeats.{Standing, none, standing-more}
 use Rattle.read_inputs.specs.LabelWalks.{labels-more}
 
 -- What holds of the labels read so far: they stand at the front, and before the first key the walk is behind them

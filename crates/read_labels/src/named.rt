@@ -3,8 +3,8 @@ use read_record::fields::wide;
 use read_record::fields::word;
 use read_record::names::same_bytes;
 ghost use Rattle.meaning.specs.Text.{labelNamed};
-ghost use Rattle.read_inputs.specs.Labels.{labelsAt};
-ghost use Rattle.read_inputs.specs.Repeats.{Standing};
+ghost use Rattle.read_entry.specs.Labels.{labelsAt};
+ghost use Rattle.read_entry.specs.Repeats.{Standing};
 ghost use Rattle.read_labels.specs.Named.{Coded};
 
 // A number that no symbol is, a symbol being one byte.

@@ -17,8 +17,8 @@ use read_typed::set::read_set;
 use write_order::ORDERED_BYTES;
 ghost use mathlib.Core.Path.{_≡_};
 ghost use lib.ListN.{length};
-ghost use Rattle.read_inputs.specs.Labels.{labelsAt};
-ghost use Rattle.read_inputs.specs.Repeats.{Standing};
+ghost use Rattle.read_entry.specs.Labels.{labelsAt};
+ghost use Rattle.read_entry.specs.Repeats.{Standing};
 ghost use Rattle.read_line.specs.Told.{LineTold};
 
 // The number that a line gives, 0 for none, and the bytes of its key's record.

@@ -5,8 +5,8 @@ use read_record::names::same_bytes;
 use read_text::next::next;
 ghost use mathlib.Core.Path.{_≡_};
 ghost use Prim.Native.Nat.{_%_};
-ghost use Rattle.read_inputs.specs.Labels.{labelsAt};
-ghost use Rattle.read_inputs.specs.Repeats.{Standing};
+ghost use Rattle.read_entry.specs.Labels.{labelsAt};
+ghost use Rattle.read_entry.specs.Repeats.{Standing};
 ghost use Rattle.read_symbols.specs.Outcomes.{Higher};
 ghost use Rattle.read_symbols.specs.Scanning.{PathTold};
 

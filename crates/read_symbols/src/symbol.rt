@@ -3,8 +3,8 @@ use read_labels::named::label_named;
 use read_record::limits::TEXT;
 use read_record::names::is_name;
 use read_record::names::same_bytes;
-ghost use Rattle.read_inputs.specs.Labels.{labelsAt};
-ghost use Rattle.read_inputs.specs.Repeats.{Standing};
+ghost use Rattle.read_entry.specs.Labels.{labelsAt};
+ghost use Rattle.read_entry.specs.Repeats.{Standing};
 ghost use Rattle.read_symbols.specs.Symbols.{SymbolTold};
 
 // "Symbol 0 in a path is the any-path"

@@ -35,14 +35,14 @@ use Rattle.theory_records.specs.Questions.{LinesAt, lines-long, QuestionSound, 
 use Rattle.theory_records.specs.Bodies.{records-next}
 use Rattle.read_record.specs.Classes.{Tabled, classBy, class-tabled}
 use Rattle.read_record.specs.Tables.{bytes-key}
-use Rattle.read_inputs.specs.Keys.{lineTestsBy}
-use Rattle.read_inputs.specs.Agree.{line-agrees}
+use Rattle.read_entry.specs.Keys.{lineTestsBy}
+use Rattle.read_entry.specs.Agree.{line-agrees}
 use Rattle.read_inputs.specs.Accepted.{Given}
 use Rattle.read_judged.specs.declared.Judged.{Judged}
 use Rattle.read_judged.specs.declared.Judged.the-variants.{Sound, Refused}
 use Rattle.rule_tests.specs.SetBytes.{line-key}
-use Rattle.rule_lines.specs.Premises.{linesFrom, LineRecord, Earlier, LineBody, line-at, line-none}
-use Rattle.rule_lines.specs.ProofLines.{lines-more}
+use Rattle.rule_premises.specs.Premises.{linesFrom, LineRecord, Earlier, LineBody, line-at, line-none}
+use Rattle.rule_premises.specs.ProofLines.{lines-more}
 use Rattle.rule_lines.specs.Following.{still-below, new-did-follow, below-more, told-follows, told-not}
 
 -- "Where an answer is an enum, a definition gives this paper's number and values for each case of the enum": a proof is input 3

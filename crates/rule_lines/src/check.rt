@@ -1,8 +1,6 @@
 // "A proof is accepted if each line follows and the last line's key is the question." Lines are judged from the front: each one's own
 // refusal number, then whether it follows (9), before the next is looked at; then 10. The proof's size (7) is the caller's to test.
-use crate::follow::follows;
-use crate::follow::line_key;
-use read_inputs::keys::judge_line;
+use read_entry::keys::judge_line;
 use read_judged::ACCEPTED;
 use read_judged::Judged;
 use read_judged::OTHER_END;
@@ -11,12 +9,14 @@ use read_record::fields::HEAD_BYTES;
 use read_record::fields::word;
 use read_record::names::same_bytes;
 use read_walker::record_at;
+use rule_follows::follows;
+use rule_premises::line_key;
 ghost use Prim.Native.Nat.{_-_};
 ghost use lib.ListN.{getElem?};
 ghost use Rattle.meaning.specs.Rules.{lineKeys};
 ghost use Rattle.meaning.specs.Refusals.{questionIn, proofWalked};
 ghost use Rattle.meaning.specs.Operations.{ProofJudged, singleIn, labelsIn, keysIn};
-ghost use Rattle.rule_lines.specs.Premises.{linesFrom, Earlier};
+ghost use Rattle.rule_premises.specs.Premises.{linesFrom, Earlier};
 ghost use Rattle.read_inputs.specs.Accepted.{Given};
 ghost use Rattle.rule_lines.specs.Checking.{IsQuestion, LastTold, checkedAnswer};
 

@@ -7,7 +7,7 @@ use mathlib.Core.List.{List, [], _∷_, _++_, map, List·Memᴰ, List·Memᴰ·h
 use mathlib.Core.Option.{Option, none, some, Option·none-ne-some}
 use borrow.Author.Tests.{eqb-true, eq-eqb}
 use lib.Dec.{T, eqb, leb, ltb}
-use Rattle.meaning.specs.Limits.{inProfile}
+use Rattle.meaning.specs.Limits.{KeyLimits}
 use Rattle.meaning.specs.Lists.{every, any, same}
 use Rattle.meaning.specs.Paths.{Label, Class, element, attribute, declared, declaredClass}
 use Rattle.meaning.specs.Keys.{Key}
@@ -199,7 +199,7 @@ module _ {labels : List Label} (r : LabelsRead labels) where
   path-well : (p : List ℕ) → T (every (isSymbol labels) p) → T (every wellNamed (map (typedSymbol labels) p))
   path-well p t = each-well wellNamed (typedSymbol labels) p (λ s m. symbol-back r s (every-each (isSymbol labels) p t s m) .well)
 
-  module _ (key : Key) (good : GoodKey labels inProfile key) where
+  module _ {limits : KeyLimits} (key : Key) (good : GoodKey labels limits key) where
     -- what is written for a good key is a line ..
     pub typed-named : T (allNamed (typedOf labels key))
     unfolding allNamed typedOf
@@ -207,16 +207,16 @@ module _ {labels : List Label} (r : LabelsRead labels) where
         let c : List Typed = map (typedSymbol labels) (key .context) in
         let t : List Typed = map (typedSymbol labels) (key .target) in
         both (every wellNamed c && every wellNamed t) (every (every wellNamed) (map (map (typedSymbol labels)) (key .paths)))
-        (both (every wellNamed c) (every wellNamed t) (path-well (key .context) (context-symbols labels inProfile key good)) (path-well (key .target) (target-symbols labels inProfile key good)))
-        (each-well (every wellNamed) (map (typedSymbol labels)) (key .paths) (λ p m. path-well p (key-path-symbols labels inProfile key good p m)))
+        (both (every wellNamed c) (every wellNamed t) (path-well (key .context) (context-symbols labels limits key good)) (path-well (key .target) (target-symbols labels limits key good)))
+        (each-well (every wellNamed) (map (typedSymbol labels)) (key .paths) (λ p m. path-well p (key-path-symbols labels limits key good p m)))
 
     -- .. and is that key
     pub typed-back : typedKey labels (typedOf labels key) ≡ some key
     unfolding typedKey typedOf andThen
     typed-back =
         rw (
-          path-back (key .context) (context-symbols labels inProfile key good),
-          path-back (key .target) (target-symbols labels inProfile key good),
-          back-each (everyOne (symbolOf labels)) (map (typedSymbol labels)) (key .paths) (λ p m. path-back p (key-path-symbols labels inProfile key good p m)),
-          in-order (key .paths) (paths-ascending labels inProfile key good),
+          path-back (key .context) (context-symbols labels limits key good),
+          path-back (key .target) (target-symbols labels limits key good),
+          back-each (everyOne (symbolOf labels)) (map (typedSymbol labels)) (key .paths) (λ p m. path-back p (key-path-symbols labels limits key good p m)),
+          in-order (key .paths) (paths-ascending labels limits key good),
         )

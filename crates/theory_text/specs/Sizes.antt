@@ -4,10 +4,11 @@ use mathlib.Core.Path.{refl, sym, subst}
 use mathlib.Core.Bool.{_&&_}
 use mathlib.Core.List.{List, [], _∷_, _++_, map, List·Memᴰ, List·Memᴰ·head, List·Memᴰ·tail, List·Memᴰ·not-nil}
 use native.Mathlib.Omega.{arith}
+use native.Mathlib.Nat.{mul-suc, mul-le-mul-left}
 use borrow.Author.Tests.{leb-true}
 use lib.Dec.{T, leb}
 use lib.ListN.{length, length-append, length-map}
-use Rattle.meaning.specs.Limits.{inProfile}
+use Rattle.meaning.specs.Limits.{KeyLimits, inProfile, inProof}
 use Rattle.meaning.specs.Lists.{every}
 use Rattle.meaning.specs.Paths.{Label}
 use Rattle.meaning.specs.Keys.{Key}
@@ -44,30 +45,38 @@ unfolding printPath
 path-size [] t = omega arith
 path-size (s ∷ p) t = let h = joined-length s p t in omega arith
 
-set-size : (ps : List (List Typed)) → T (every (every wellNamed) ps) → ((p : List Typed) → List·Memᴰ p ps → length p ≤ 8)
-    → length (joinedBy comma (map printPath ps)) ≤ 275 * length ps
+-- key paths of so many bytes each, with the comma behind them
+set-size : (width : ℕ) (ps : List (List Typed)) → T (every (every wellNamed) ps) → ((p : List Typed) → List·Memᴰ p ps → 34 * length p + 3 ≤ width)
+    → length (joinedBy comma (map printPath ps)) ≤ width * length ps
 unfolding joinedBy
-set-size [] t h = omega arith
-set-size (p ∷ []) t h =
+set-size width [] t h = omega arith
+set-size width (p ∷ []) t h =
     let a = path-size p (every-head (every wellNamed) p [] t) in
     let b = h p (List·Memᴰ·head refl) in
-    omega arith
-set-size (p ∷ x ∷ ps) t h =
+    omega (arith, mul-suc width 0)
+set-size width (p ∷ x ∷ ps) t h =
     let a = path-size p (every-head (every wellNamed) p (x ∷ ps) t) in
     let b = h p (List·Memᴰ·head refl) in
-    let m = set-size (x ∷ ps) (every-tail (every wellNamed) p (x ∷ ps) t) (λ q i. h q (List·Memᴰ·tail i)) in
+    let m = set-size width (x ∷ ps) (every-tail (every wellNamed) p (x ∷ ps) t) (λ q i. h q (List·Memᴰ·tail i)) in
     let e = length-append (printPath p) (comma ++ joinedBy comma (map printPath (x ∷ ps))) in
-    omega arith
+    omega (arith, mul-suc width (length (x ∷ ps)))
 
--- a line with paths of 8 symbols and 4 key paths
-pub line-size : (k : TypedKey) → T (allNamed k) → length (k .context) ≤ 8 → length (k .target) ≤ 8 → length (k .paths) ≤ 4
-    → ((p : List Typed) → List·Memᴰ p (k .paths) → length p ≤ 8) → length (printKey k) ≤ 1700
-unfolding printKey allNamed
-line-size k t c g n h =
+-- the bytes of a line whose key is within the limits: 33 and a dot for each symbol, 12 between the paths
+unfoldable pub longestLine : KeyLimits → ℕ
+longestLine limits = 68 * limits .symbols + (34 * limits .pathSymbols + 3) * limits .paths + 12
+
+line-size : (limits : KeyLimits) (k : TypedKey) → T (allNamed k) → length (k .context) ≤ limits .symbols → length (k .target) ≤ limits .symbols
+    → length (k .paths) ≤ limits .paths → ((p : List Typed) → List·Memᴰ p (k .paths) → length p ≤ limits .pathSymbols) → length (printKey k) ≤ longestLine limits
+unfolding printKey allNamed longestLine
+line-size limits k t c g n h =
     let two = and-left (every wellNamed (k .context) && every wellNamed (k .target)) (every (every wellNamed) (k .paths)) t in
     let a = path-size (k .context) (and-left (every wellNamed (k .context)) (every wellNamed (k .target)) two) in
     let b = path-size (k .target) (and-right (every wellNamed (k .context)) (every wellNamed (k .target)) two) in
-    let d = set-size (k .paths) (and-right (every wellNamed (k .context) && every wellNamed (k .target)) (every (every wellNamed) (k .paths)) t) h in
+    let width : ℕ = 34 * limits .pathSymbols + 3 in
+    let d =
+    set-size width (k .paths) (and-right (every wellNamed (k .context) && every wellNamed (k .target)) (every (every wellNamed) (k .paths)) t)
+    (λ p i. let s = h p i in omega arith) in
+    let most = mul-le-mul-left width n in
     let set : List ℕ = joinedBy comma (map printPath (k .paths)) in
     let tail : List ℕ = 44 ∷ 32 ∷ 123 ∷ (set ++ (125 ∷ 41 ∷ 41 ∷ [])) in
     let x = length-append set (125 ∷ 41 ∷ 41 ∷ []) in
@@ -80,18 +89,32 @@ mapped f [] Q h y m = absurd (List·Memᴰ·not-nil m)
 mapped f (x ∷ xs) Q h y (List·Memᴰ·head e) = subst Q (sym e) (h x (List·Memᴰ·head refl))
 mapped f (x ∷ xs) Q h y (List·Memᴰ·tail m) = mapped f xs Q (λ z i. h z (List·Memᴰ·tail i)) y m
 
+-- the line of a key within the limits, by the names of accepted labels
+key-fits : {labels : List Label} → LabelsRead labels → {limits : KeyLimits} (key : Key) → GoodKey labels limits key
+    → length (printKey (typedOf labels key)) ≤ longestLine limits
+key-fits {labels} r {limits} key good =
+    line-size limits (typedOf labels key) (typed-named r key good) context target paths
+    (unfold typedOf in mapped (map (typedSymbol labels)) (key .paths) (λ (p : List Typed). length p ≤ limits .pathSymbols)
+    (λ p m. subst (λ (n : ℕ). n ≤ limits .pathSymbols) (sym (length-map p (typedSymbol labels))) (key-path-length labels limits key good p m)))
+  where
+    context : length (typedOf labels key .context) ≤ limits .symbols
+    context =
+        unfold typedOf in subst (λ (n : ℕ). n ≤ limits .symbols) (sym (length-map (key .context) (typedSymbol labels))) (context-length labels limits key good)
+
+    target : length (typedOf labels key .target) ≤ limits .symbols
+    target =
+        unfold typedOf in subst (λ (n : ℕ). n ≤ limits .symbols) (sym (length-map (key .target) (typedSymbol labels))) (target-length labels limits key good)
+
+    paths : length (typedOf labels key .paths) ≤ limits .paths
+    paths =
+        unfold typedOf in subst (λ (n : ℕ). n ≤ limits .paths) (sym (length-map (key .paths) (map (typedSymbol labels)))) (paths-within labels limits key good)
+
 -- the line of an accepted question
 pub line-fits : {labels : List Label} → LabelsRead labels → (key : Key) → GoodKey labels inProfile key → length (printKey (typedOf labels key)) ≤ 1700
-line-fits {labels} r key good =
-    line-size (typedOf labels key) (typed-named r key good) context target paths
-    (unfold typedOf in mapped (map (typedSymbol labels)) (key .paths) (λ (p : List Typed). length p ≤ 8)
-    (λ p m. subst (λ (n : ℕ). n ≤ 8) (sym (length-map p (typedSymbol labels))) (key-path-length labels inProfile key good p m)))
-  where
-    context : length (typedOf labels key .context) ≤ 8
-    context = unfold typedOf in subst (λ (n : ℕ). n ≤ 8) (sym (length-map (key .context) (typedSymbol labels))) (context-length labels inProfile key good)
+unfolding longestLine
+line-fits r key good = let h = key-fits r key good in omega arith
 
-    target : length (typedOf labels key .target) ≤ 8
-    target = unfold typedOf in subst (λ (n : ℕ). n ≤ 8) (sym (length-map (key .target) (typedSymbol labels))) (target-length labels inProfile key good)
-
-    paths : length (typedOf labels key .paths) ≤ 4
-    paths = unfold typedOf in subst (λ (n : ℕ). n ≤ 4) (sym (length-map (key .paths) (map (typedSymbol labels)))) (paths-within labels inProfile key good)
+-- and of a proof line
+pub proof-line-fits : {labels : List Label} → LabelsRead labels → (key : Key) → GoodKey labels inProof key → length (printKey (typedOf labels key)) ≤ 40000
+unfolding longestLine
+proof-line-fits r key good = let h = key-fits r key good in omega arith

@@ -7,5 +7,4 @@ pub mod Trimmed
 pub mod Again
 pub mod TrimmedBytes
 pub mod Marks
-pub mod TrimAnswers
 pub mod Reached

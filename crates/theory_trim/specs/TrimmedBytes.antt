@@ -15,8 +15,8 @@ use Rattle.meaning.specs.Keys.{Key}
 use Rattle.meaning.specs.Rules.{Line, Follows, FollowsIn, shared, rule10, rule0, rule1, rule2, rule3, rule4, rule5, rule6, rule7, rule8, rule9, FollowsBelow, Accepted, lineKeys}
 use Rattle.meaning.specs.Records.{wordBytes, recordLength, recordKind, recordBody, recordBytes, readLine, keyIn, keyBody, lineBytes}
 use Rattle.meaning.specs.Refusals.{Refusal, Walked, firstOf, lineTests, firstRefusal, profileRefusal, questionRefusal, questionIn, proofWalked}
-use Rattle.meaning.specs.Operations.{Answer, Unless, choose, refusedBy, plain, accepted, singleIn, labelsIn, keysIn, ChecksProof, ProofJudged, unfollowed, faulty, otherEnd, proved}
-use Rattle.meaning.specs.Trimming.{earliest, pointed, withPremises, noLine, lineAt, needed, placeIn, trimmedLines, linesIn, trimmedProof, trimAnswer, Trims}
+use Rattle.meaning.specs.Operations.{Answer, Unless, choose, refusedBy, plain, accepted, recordsFrom, singleIn, labelsIn, keysIn, ChecksProof, ProofJudged, unfollowed, faulty, otherEnd, proved}
+use Rattle.meaning.specs.Trimming.{earliest, pointed, withPremises, noLine, lineAt, needed, placeIn, trimmedLines, linesIn, trimmedProof, Trims}
 use Rattle.theory_paths.specs.Good.{GoodKey}
 use Rattle.theory_lists.specs.Bools.{Each-at}
 use Rattle.theory_records.specs.Walks.{walk-keeps}
@@ -26,9 +26,10 @@ use Rattle.theory_records.specs.Encodings.{ends-line}
 use Rattle.theory_records.specs.Judged.{line-accepted}
 use Rattle.theory_records.specs.Profiles.{flat-more, refusal-none, within-size, accepted-few}
 use Rattle.theory_records.specs.Questions.{lines-long, lines-at-stop}
+use Rattle.theory_records.specs.Places.{LinesStand, lines-stand-more, lines-stand-none}
 use Rattle.theory_records.specs.WrittenInputs.{LineFits, proof-walked-written}
 use Rattle.theory_answers.specs.Refusing.{unless-sound, sound-more, sound-end, fits-size}
-use Rattle.theory_answers.specs.Unique.{unless-unique, checks-proof-unique}
+use Rattle.theory_answers.specs.FromProof.{not-refused, from-unique}
 use Rattle.theory_lists.specs.Logic.{found-below, found-mem}
 use Rattle.theory_derive.specs.Accept.{line-keys-length}
 use Rattle.theory_trim.specs.Needs.{Needs, noLine as noneThere, stays, goes, needs-few}
@@ -145,10 +146,6 @@ pub record ProofSound (profile question proof : List ℕ) : Type 0 where
   pub ended : proofWalked (labelsIn profile) proof .number ≡ 0
   pub holds : Accepted (singleIn profile) (labelsIn profile) (keysIn profile) (questionIn question) (linesIn profile proof)
 
-pub not-refused : (r : Refusal) (buffer : List ℕ) → plain accepted ≡ refusedBy r buffer → ⊥
-unfolding plain refusedBy
-not-refused r buffer e = let z : _≡_ {A = ℕ} 0 1 = cc (ap (λ (a : Answer). a .verdict) e) in absurd (omega arith)
-
 unless-accepted : (rs : List Refusal) (buffer : List ℕ) (Q : Answer → Type 0) → Unless rs buffer Q (plain accepted)
     → (firstRefusal rs .number ≡ 0) × Q (plain accepted)
 unfolding Unless choose
@@ -180,6 +177,25 @@ proof-sound profile question proof c =
       ended = judged-accepted _ _ _ _ _ (u .1) .0;
       holds = judged-accepted _ _ _ _ _ (u .1) .1;
     }
+
+-- the lines of an accepted proof: not too many, and nothing stands behind them
+module _ {profile question proof : List ℕ} (s : ProofSound profile question proof) where
+  pub proof-few : length (linesIn profile proof) ≤ 256
+  unfolding linesIn
+  proof-few = lines-at-stop (labelsIn profile) proof .few
+
+  pub proof-ended : recordsFrom (length (linesIn profile proof)) proof ≡ []
+  unfolding linesIn proofWalked
+  proof-ended =
+      let w =
+      walk-keeps (lineTests (labelsIn profile)) (λ (lines : List Line) (l : List ℕ). lines ++ (readLine (recordBody l) ∷ [])) (LinesStand (labelsIn profile) proof)
+      (lines-long (labelsIn profile))
+      (lines-stand-more (labelsIn profile) proof)
+      0
+      []
+      proof
+      (lines-stand-none (labelsIn profile) proof) in
+      ap (λ (n : ℕ). recordsFrom n proof) (sym (w .held .counted)) ∙ sym (w .held .here) ∙ w .sound (s .ended)
 
 module _ (profile question proof : List ℕ) (s : ProofSound profile question proof) where
   abbrev single : ℕ → Bool
@@ -297,10 +313,4 @@ module _ (profile question proof : List ℕ) (s : ProofSound profile question pr
 pub trims-unique : (profile question proof buffer : List ℕ) (a b : Answer) → Trims profile question proof buffer a → Trims profile question proof buffer b
     → a ≡ b
 unfolding Trims
-trims-unique profile question proof buffer a b =
-    unless-unique _ _ _
-    (λ x y p q.
-    p .is
-    ∙ (ap (trimAnswer profile question proof buffer) (checks-proof-unique profile question proof (p .checked) (q .checked) (p .checks) (q .checks))
-    ∙ sym (q .is)))
-    a b
+trims-unique profile question proof buffer = from-unique _ _ _ _ _ _

@@ -125,7 +125,7 @@ not-refused e = subst (λ (v : Verdict). T (isRefused v)) e tt
 -- ---- what an answer says where nothing is refused
 
 -- an answer that accepts refuses nothing
-accepted-passes : (rs : List Refusal) (Q : Answer → Type 0) (answer : Answer) → answer .verdict ≡ accepted → Unless rs [] Q answer
+pub accepted-passes : (rs : List Refusal) (Q : Answer → Type 0) (answer : Answer) → answer .verdict ≡ accepted → Unless rs [] Q answer
     → firstRefusal rs .number ≡ 0
 unfolding Unless choose refusedBy
 accepted-passes rs Q answer says u = go (firstRefusal rs .number) u

@@ -12,8 +12,8 @@ use lib.ListN.{length, getD, take, drop}
 use Rattle.meaning.specs.Records.{word, recordLength, recordBody, readLabel}
 use Rattle.theory_records.specs.Heads.{body-length}
 use Rattle.theory_records.specs.HeadTests.{body-part}
-use Rattle.read_inputs.specs.Labels.{labelsAt}
-use Rattle.read_inputs.specs.Repeats.{Standing, more}
+use Rattle.read_entry.specs.Labels.{labelsAt}
+use Rattle.read_entry.specs.Repeats.{Standing, more}
 use Rattle.write_bytes.specs.Wrote.{Wrote, wrote-is, wrote-none}
 use Rattle.write_text.specs.Texts.{labelText, declaredText, declared-none, declared-more}
 

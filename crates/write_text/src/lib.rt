@@ -15,8 +15,8 @@ ghost use mathlib.Core.Bool.{true};
 ghost use lib.ListN.{length};
 ghost use Rattle.meaning.specs.Records.{readLabel, readKey, keyIn, isSome};
 ghost use Rattle.meaning.specs.Text.{printKey, typedOf};
-ghost use Rattle.read_inputs.specs.Labels.{labelsAt};
-ghost use Rattle.read_inputs.specs.Repeats.{Standing};
+ghost use Rattle.read_entry.specs.Labels.{labelsAt};
+ghost use Rattle.read_entry.specs.Repeats.{Standing};
 ghost use Rattle.write_bytes.specs.Wrote.{Wrote};
 ghost use Rattle.write_text.specs.Texts.{labelText, declaredText, symbolText, pathText, pathsText};
 

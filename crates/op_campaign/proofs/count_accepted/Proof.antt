@@ -1,4 +1,4 @@
-use Rattle.op_tree.specs.BothAccepted.{counted-bodies}
+use Rattle.op_tree_accepted.specs.BothAccepted.{counted-bodies}
 use Rattle.op_campaign.specs.Segments.{accepted-tree, accepted-keys, adds-keys}
 use borrow.Author.Needs.{needs}
 use Rattle.op_campaign.proofs.count_accepted.Statement.{statement}

@@ -5,7 +5,7 @@ use Rattle.op_salvage_keys.proofs.judge_key.Tie as tie
 use Rattle.op_salvage_keys.proofs.judge_key.Reads as reads
 use Rattle.op_salvage_keys.proofs.judge_key.Lts as lts
 use Rattle.op_profile.proofs.profiles.body_at_front.Reads as body-at-front-reads
-use Rattle.op_tree.proofs.keys.test_key.Reads as test-key-reads
+use Rattle.op_tree_keys.proofs.test_key.Reads as test-key-reads
 use Rattle.read_walker.proofs.record_at.Reads as record-at-reads
 
 -- src/lib.rt:41:9

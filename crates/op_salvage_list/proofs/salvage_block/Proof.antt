@@ -1,4 +1,4 @@
-use Rattle.op_tree.specs.BothAccepted.{counted-bodies}
+use Rattle.op_tree_accepted.specs.BothAccepted.{counted-bodies}
 use Rattle.op_accept.specs.Taken.{tables-of, taken-given}
 use native.Mathlib.Omega.{arith}
 use Rattle.op_salvage_list.specs.Listing.{small-lists, profile-lists, keys-few}

@@ -8,39 +8,39 @@ use Rattle.op_answers.proofs.small_answer.Reads as small-answer-reads
 use Rattle.op_proof.proofs.check_proof.Reads as check-proof-reads
 use Rattle.op_trim.proofs.put_trimmed.Reads as put-trimmed-reads
 
--- src/lib.rt:52:33
+-- src/lib.rt:46:33
 small-answer-requires : tie.Need-small-answer-requires
 small-answer-requires c κs = search needs
 
--- src/lib.rt:52:9
+-- src/lib.rt:46:9
 returns : tie.Need-returns
 returns c = search (trim-small)
 
--- src/lib.rt:54:9
+-- src/lib.rt:48:9
 check-proof-requires : tie.Need-check-proof-requires
 check-proof-requires c κs = search needs
 
--- src/lib.rt:56:27
+-- src/lib.rt:50:27
 enum-known-checked : tie.Need-enum-known-checked
 enum-known-checked c = search needs
 
--- src/lib.rt:58:36
+-- src/lib.rt:52:36
 enum-told : tie.Need-enum-told
 enum-told c = search needs
 
--- src/lib.rt:58:17
+-- src/lib.rt:52:17
 put-trimmed-requires : tie.Need-put-trimmed-requires
 put-trimmed-requires c κs = (search (trim-proved), search needs)
 
--- src/lib.rt:48:1
+-- src/lib.rt:42:1
 returns-2 : tie.Need-returns-2
 returns-2 c = search (trim-refused)
 
--- src/lib.rt:48:1
+-- src/lib.rt:42:1
 same-length : tie.Need-same-length
 same-length c = search needs
 
--- src/lib.rt:48:1
+-- src/lib.rt:42:1
 returns-3 : tie.Need-returns-3
 returns-3 c = search (trim-filled)
 

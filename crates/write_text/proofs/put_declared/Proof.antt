@@ -1,7 +1,7 @@
 use mathlib.Core.Path.{refl}
 use native.Mathlib.Omega.{arith}
 use borrow.Author.Needs.{needs}
-use Rattle.read_inputs.specs.Labels.{labelsAt}
+use Rattle.read_entry.specs.Labels.{labelsAt}
 use Rattle.write_text.specs.Texts.{declaredText}
 use Rattle.write_text.specs.Looking.{Looking, Stays, stays-start, looking-fits, looking-head, looking-room, looking-within, looking-body, looking-found, looking-next, looking-done}
 use Rattle.write_text.proofs.put_declared.Statement.{statement}

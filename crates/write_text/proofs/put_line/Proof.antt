@@ -1,5 +1,5 @@
 use Rattle.meaning.specs.Records.{keyIn}
-use Rattle.read_inputs.specs.Labels.{labelsAt}
+use Rattle.read_entry.specs.Labels.{labelsAt}
 use Rattle.write_text.specs.Lines.{line-open, context-room, target-open, target-room, set-open, paths-room, line-close, line-wrote}
 use borrow.Author.Needs.{needs}
 use Rattle.write_text.proofs.put_line.Statement.{statement}

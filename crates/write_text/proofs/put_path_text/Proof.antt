@@ -2,7 +2,7 @@ use Prim.Native.Nat.{_-_}
 use native.Mathlib.Omega.{arith}
 use borrow.Author.Needs.{needs}
 use lib.ListN.{length}
-use Rattle.read_inputs.specs.Labels.{labelsAt}
+use Rattle.read_entry.specs.Labels.{labelsAt}
 use Rattle.write_text.specs.Symbols.{Symbols, empty-room, empty-wrote, symbol-first, symbol-start, dot-room, symbol-room, symbol-next, symbol-done}
 use Rattle.write_text.proofs.put_path_text.Statement.{statement}
 use Rattle.write_text.proofs.put_path_text.Tie as tie

@@ -2,7 +2,7 @@ use Prim.Native.Nat.{_-_}
 use native.Mathlib.Omega.{arith}
 use borrow.Author.Needs.{needs}
 use Rattle.meaning.specs.Records.{keyIn}
-use Rattle.read_inputs.specs.Labels.{labelsAt}
+use Rattle.read_entry.specs.Labels.{labelsAt}
 use Rattle.write_text.specs.Symbols.{Set, set-none, set-first, set-start, comma-room, set-room, set-next, set-done}
 use Rattle.write_text.proofs.put_paths_text.Statement.{statement}
 use Rattle.write_text.proofs.put_paths_text.Tie as tie

@@ -3,7 +3,7 @@ use native.Mathlib.Omega.{arith}
 use borrow.Author.Needs.{needs}
 use Rattle.tree_table.specs.FileTable.{fileTable, classBy}
 use Rattle.tree_search.specs.Start.{Lent}
-use Rattle.op_tree.specs.ProfileKeys.{good-body}
+use Rattle.op_tree_keys.specs.ProfileKeys.{good-body}
 use Rattle.op_campaign.specs.Marks.{Marked, marked-none, marked-more, marked-all}
 use Rattle.op_campaign.proofs.marks.mark_keys.Statement.{statement}
 use Rattle.op_campaign.proofs.marks.mark_keys.Tie as tie

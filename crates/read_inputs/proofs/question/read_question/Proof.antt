@@ -1,5 +1,5 @@
 use Rattle.read_inputs.specs.QuestionWalks.{question-empty, question-first, question-alone, question-second, question-torn}
-use Rattle.read_inputs.specs.KeyWalks.{key-here}
+use Rattle.read_profile_keys.specs.KeyWalks.{key-here}
 use Rattle.theory_records.specs.Bytes.{bytes-from}
 use native.Mathlib.Nat.{pos-of-ne-zero}
 use native.Mathlib.Omega.{arith}
@@ -8,7 +8,7 @@ use Rattle.read_inputs.proofs.question.read_question.Statement.{stateme
 use Rattle.read_inputs.proofs.question.read_question.Tie as tie
 use Rattle.read_inputs.proofs.question.read_question.Reads as reads
 use Rattle.read_inputs.proofs.question.read_question.Lts as lts
-use Rattle.read_inputs.proofs.keys.judge_key.Reads as judge-key-reads
+use Rattle.read_entry.proofs.keys.judge_key.Reads as judge-key-reads
 use Rattle.read_record.proofs.bodies.whole.Reads as whole-reads
 use Rattle.read_record.proofs.fields.word.Reads as word-reads
 

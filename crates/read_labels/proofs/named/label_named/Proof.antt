@@ -2,7 +2,7 @@ use mathlib.Core.Path.{refl}
 use native.Mathlib.Omega.{arith}
 use borrow.Author.Needs.{needs}
 use Rattle.meaning.specs.Text.{labelNamed}
-use Rattle.read_inputs.specs.Labels.{labelsAt}
+use Rattle.read_entry.specs.Labels.{labelsAt}
 use Rattle.read_labels.specs.Named.{Naming, naming-head, naming-room, naming-within, naming-found, naming-other, naming-next, naming-done}
 use Rattle.read_labels.proofs.named.label_named.Statement.{statement}
 use Rattle.read_labels.proofs.named.label_named.Tie as tie

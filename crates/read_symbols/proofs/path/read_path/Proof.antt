@@ -3,7 +3,7 @@ use Prim.Native.Nat.{_+_, _-_}
 use lib.ListN.{length}
 use native.Mathlib.Omega.{arith}
 use borrow.Author.Needs.{needs}
-use Rattle.read_inputs.specs.Labels.{labelsAt}
+use Rattle.read_entry.specs.Labels.{labelsAt}
 use Rattle.read_symbols.specs.Scanning.{Scanning, scan-start, scan-keep, scan-over, path-lone, path-read}
 use Rattle.read_symbols.proofs.path.read_path.Statement.{statement}
 use Rattle.read_symbols.proofs.path.read_path.Tie as tie

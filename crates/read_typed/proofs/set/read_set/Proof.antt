@@ -2,7 +2,7 @@ use Prim.Native.Nat.{_+_, _-_}
 use lib.ListN.{length}
 use native.Mathlib.Omega.{arith}
 use borrow.Author.Needs.{needs}
-use Rattle.read_inputs.specs.Labels.{labelsAt}
+use Rattle.read_entry.specs.Labels.{labelsAt}
 use Rattle.read_typed.specs.Gathering.{Gathering, gather-start, gather-next, set-none, set-read}
 use Rattle.read_typed.proofs.set.read_set.Statement.{statement}
 use Rattle.read_typed.proofs.set.read_set.Tie as tie

@@ -10,9 +10,9 @@ use Rattle.rule_lines.proofs.check.check_lines.Tie as tie
 use Rattle.rule_lines.proofs.check.check_lines.Reads as reads
 use Rattle.rule_lines.proofs.check.check_lines.Lts as lts
 use Rattle.rule_lines.proofs.check.last_is.Reads as last-is-reads
-use Rattle.rule_lines.proofs.follow.follows.Reads as follows-reads
+use Rattle.rule_follows.proofs.follows.Reads as follows-reads
 use Rattle.read_walker.proofs.record_at.Reads as record-at-reads
-use Rattle.read_inputs.proofs.keys.judge_line.Reads as judge-line-reads
+use Rattle.read_entry.proofs.keys.judge_line.Reads as judge-line-reads
 use Rattle.read_record.proofs.fields.word.Reads as word-reads
 
 abbrev Inv-loop : tie.InvT-loop

@@ -1,11 +1,11 @@
-use Rattle.rule_lines.specs.Premises.{earlier-last}
+use Rattle.rule_premises.specs.Premises.{earlier-last}
 use Rattle.rule_lines.specs.Checking.{last-empty, last-same, last-other, question-start, question-end}
 use borrow.Author.Needs.{needs}
 use Rattle.rule_lines.proofs.check.last_is.Statement.{statement}
 use Rattle.rule_lines.proofs.check.last_is.Tie as tie
 use Rattle.rule_lines.proofs.check.last_is.Reads as reads
 use Rattle.rule_lines.proofs.check.last_is.Lts as lts
-use Rattle.rule_lines.proofs.follow.line_key.Reads as line-key-reads
+use Rattle.rule_premises.proofs.line_key.Reads as line-key-reads
 use Rattle.read_record.proofs.names.same_bytes.Reads as same-bytes-reads
 use Rattle.read_record.proofs.fields.word.Reads as word-reads
 

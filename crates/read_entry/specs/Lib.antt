@@ -1,0 +1,4 @@
+pub mod Repeats
+pub mod Labels
+pub mod Keys
+pub mod Agree

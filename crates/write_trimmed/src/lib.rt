@@ -1,0 +1,2 @@
+// The bytes of a trimmed proof (02, request 10).
+pub mod puts;
