@@ -32,7 +32,7 @@ there() {
             find "crates/$crate/src" -name '*.rt' -exec cat {} + >"$work/source"
             grep -qE "(fn|const|enum|struct|mod|^ +) ?$name\\b" "$work/source"
             ;;
-        crates/* | tests/* | docs/* | measure/* | examples/* | include/*) [ -e "$1" ] || ls "$1".* >/dev/null 2>&1 ;;
+        crates/* | tests/* | docs/* | measure/* | examples/* | include/* | front/*) [ -e "$1" ] || ls "$1".* >/dev/null 2>&1 ;;
         [a-z]*/[a-z]*)
             [ -f "crates/${1%%/*}/must-fail/${1#*/}.edit" ]
             ;;
@@ -81,7 +81,7 @@ for page in README.md docs/*.md docs/landings/*.md tests/README.md; do
 done
 
 # a page or a number that only its writers had
-if grep -rnE 'DESIGN|[Ii]ssues? [0-9]|\bthe design\b' README.md docs crates tests measure examples include culvertecho test crates.txt \
+if grep -rnE 'DESIGN|[Ii]ssues? [0-9]|\bthe design\b' README.md docs crates tests measure examples include front culvertecho test crates.txt \
     --include='*' --exclude=documents.sh >"$work/cited"; then
     wrong "cites what is not in the repository: $(cut -c1-120 "$work/cited")"
 fi

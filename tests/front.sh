@@ -235,6 +235,48 @@ expect 5 "unreadable $work/none$line" campaign "$work/none" "$work/list"
 expect 5 "unreadable $work/none$line" campaign "$examples/a.profile" "$work/none"
 expect 3 "usage: campaign PROFILE LIST$line" campaign "$examples/a.profile"
 
+# what a person reads: a profile as text and back, a proof's and a tree's lines, keys near a question; explain.sh holds what they say
+said=$(printf 'element 2 run\nelement 3 port\nelement 4 frame\nelement 5 stamp\nattribute 6 id\nattribute 7 seq\n(port, (frame, {@seq}))')
+expect 0 "$said$line" show profile "$examples/b.profile"
+expect 0 "" show profile "$work/empty"
+expect 2 "refused 4 1 0$line" show profile "$examples/b.question"
+printf '%s\n' "$said" >"$work/written"
+expect 0 "made 69$line" make profile "$work/written" "$work/made"
+cmp -s "$examples/b.profile" "$work/made" || fail "the profile made of its text has other bytes"
+expect 0 "made 0$line" make profile "$work/empty" "$work/made"
+printf 'element 2 run\nelement two port\n' >"$work/written"
+expect 2 "line 2: no edition, element, attribute or key line$line" make profile "$work/written" "$work/not_made"
+printf 'element 2 run\n(run, (port, {.}))\n' >"$work/written"
+expect 2 "line 2: refused 18 2 0$line" make profile "$work/written" "$work/not_made"
+printf 'element 1 run\n' >"$work/written"
+expect 2 "refused 3 1 0$line" make profile "$work/written" "$work/not_made"
+[ ! -e "$work/not_made" ] || fail "a fault made OUT"
+expect 4 "unwritable$line" make profile "$work/empty" "$work/no/such/folder"
+expect 0 "0  (., (port.frame, {@seq}))  key 0 of the profile${line}1  (port, (frame, {@seq}))    context target, from 0$line" \
+    show proof "$examples/a.profile" "$examples/a.question" "$work/short"
+expect 2 "refused 10 3 0$line" show proof "$examples/a.profile" "$examples/a.question" "$work/empty"
+expect 0 "kept$line" show tree "$examples/b.profile" "$examples/a.question" "$work/out"
+expect 2 "refused 8 3 0$line" show all "$examples/b.profile" "$examples/b.question" "$work/empty"
+for word in tree all dot; do
+    "$front" show "$word" "$examples/b.profile" "$examples/b.question" "$work/out" >"$work/found" || fail "show $word: status $?"
+    grep -q '^   0 root                  context$\|^graph tree {$' "$work/found" || fail "show $word: $(cat "$work/found")"
+done
+expect 0 "(port, (frame, {@seq}))$line" advise "$examples/b.profile" "$examples/b.question"
+expect 0 "implied$line" advise "$examples/a.profile" "$examples/a.question"
+expect 1 "nothing near$line" advise "$examples/d.profile" "$examples/d.question"
+expect 2 "refused 1 2 0$line" advise "$examples/b.profile" "$work/empty"
+for name in "$work/none" "$work/other folder"; do
+    expect 5 "unreadable $name$line" show profile "$name"
+    expect 5 "unreadable $name$line" show dot "$examples/b.profile" "$examples/b.question" "$name"
+    expect 5 "unreadable $name$line" make profile "$name" "$work/not_made"
+    expect 5 "unreadable $name$line" advise "$name" "$examples/b.question"
+done
+expect 3 "usage: make profile TEXT OUT$line" make profile "$work/empty"
+expect 3 "usage: advise PROFILE QUESTION$line" advise "$examples/b.profile"
+found=0
+"$front" show nothing >"$work/found" || found=$?
+[ "$found" -eq 3 ] && grep -q '^usage: show ' "$work/found" || fail "show nothing: status $found: $(cat "$work/found")"
+
 # an empty file is empty: no labels, so the question's symbol 3 is unknown
 expect 2 "refused 4 2 0$line" decide "$work/empty" "$examples/b.question" "$work/not_made"
 expect 0 "included$line" profile include "$examples/b.profile" "$work/empty" "$work/empty"

@@ -7,20 +7,24 @@
 //! reduce: lean profiles · listing: blocks of lines · trim: shorter proofs · text: keys in plain text ·
 //! salvage: what is left of a damaged tree · campaign: counts over a list of trees ·
 //! operations: the public operations with all refusals in 01's order ·
+//! shown, made, drawn, advice: what the programs `show`, `make` and `advise` print ·
 //! generate, damage, derivations, typing, exports: random and damaged inputs · refute: trees against an implied question ·
 //! cases, stream: the cases of a run and their frames.
 #![allow(dead_code)]
 
+pub mod advice;
 pub mod campaign;
 pub mod cases;
 pub mod damage;
 pub mod decide;
 pub mod derivations;
+pub mod drawn;
 pub mod encode;
 pub mod examples;
 pub mod exports;
 pub mod generate;
 pub mod listing;
+pub mod made;
 pub mod operations;
 pub mod paths;
 pub mod random;
@@ -29,6 +33,7 @@ pub mod reduce;
 pub mod refute;
 pub mod rules;
 pub mod salvage;
+pub mod shown;
 pub mod stream;
 pub mod text;
 pub mod trees;

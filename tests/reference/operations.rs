@@ -62,7 +62,7 @@ pub fn keep(profile: &[u8], question: &[u8], tree: &[u8]) -> Result<Option<Witne
 }
 
 /// The question and the lines of a proof of it that is accepted.
-fn accepted_proof(profile: &[u8], question: &[u8], proof: &[u8]) -> Result<(Key, Vec<Line>), Refusal> {
+pub fn accepted_proof(profile: &[u8], question: &[u8], proof: &[u8]) -> Result<(Key, Vec<Line>), Refusal> {
     let profile = read_profile(profile)?;
     let key = read_question(question, &profile.classes)?;
     let lines = read_proof(proof, &profile.classes, &|line, before| follows(line, before, &profile))?;

@@ -23,7 +23,7 @@ pub fn typed_line(random: &mut Random, labels: &[Label], key: &Key) -> Vec<u8> {
     line
 }
 
-fn shuffle(random: &mut Random, paths: &mut [TypedPath]) {
+pub fn shuffle(random: &mut Random, paths: &mut [TypedPath]) {
     for last in (1..paths.len()).rev() {
         paths.swap(last, random.below(last + 1));
     }

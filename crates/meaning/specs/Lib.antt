@@ -13,6 +13,7 @@ pub mod Operations
 pub mod Reduction
 pub mod Trimming
 pub mod Text
+pub mod ProofText
 pub mod Salvage
 pub mod Campaign
 pub mod Tally
