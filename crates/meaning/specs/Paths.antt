@@ -46,7 +46,7 @@ singles second κ n = second && is_attribute (κ n)
 unfoldable pub Agrees : List Label → (ℕ → Class) → Type 0
 Agrees labels κ = (n : ℕ) → T (is_label labels n || eqb n root_label) → κ n ≡ class_of labels n
 
--- "Symbol 0 in a path is the any-path (written `◌*`), a possibly empty run of labels."
+-- "Symbol 0 in a path is the any-path (written `_*`), a possibly empty run of labels."
 -- Some end of the run satisfies f: the any-path has taken what stands before it
 unfoldable pub any_end : (List ℕ → Bool) → List ℕ → Bool
 any_end f [] = f []

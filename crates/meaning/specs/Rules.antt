@@ -60,7 +60,7 @@ pub record TargetPath (labels : List Label) (p k : Key) : Type 0 where
   pub target : Included labels k.target p.target
   pub paths : k.paths ≡ p.paths
 
--- "7. context target: X and Y exist with X.Y = T; gives (C.X, (Y, S)). A single `◌*` may split into two."
+-- "7. context target: X and Y exist with X.Y = T; gives (C.X, (Y, S)). A single `_*` may split into two."
 pub record ContextTarget (p k : Key) : Type 0 where
   pub X : List ℕ
   pub target : join X k.target ≡ p.target

@@ -10,7 +10,7 @@ use Rattle.meaning.specs.Records.{and_then, key_bytes}
 use Rattle.meaning.specs.Refusals.{is_name, first_of, key_tests, profile_refusal, question_refusal, question_in, answer_refusal}
 use Rattle.meaning.specs.Operations.{Answer, Unless, refused_by, filled, labels_in, key_read, line_written}
 
--- A symbol as it is typed: "`◌*` for the any-path, `#` for text, `@` before attribute names"
+-- A symbol as it is typed: "`_*` for the any-path, `#` for text, `@` before attribute names"
 pub data Typed : Type 0 where
   any_path text_node : Typed
   attribute_named element_named : List ℕ → Typed

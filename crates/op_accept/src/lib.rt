@@ -1,4 +1,6 @@
 // The prologue of the public operations, once: a profile, or a profile with a question, is accepted or refused by the numbered table.
+#![tactic(auto)]
+
 ghost use Rattle.op_accept.specs.Taken.{ProfileTaken, BothTaken};
 
 use op_answers::{Outcome, PROFILE, QUESTION, of_input};
@@ -7,7 +9,7 @@ use read_inputs::question::read_question;
 
 // What is known where nothing is refused: the class of each label (0: not declared), whether the profile is of edition 2, how many records stand
 // before its keys, and how many keys there are.
-#[derive(Drop)]
+#[derive(Clone, Copy)]
 pub struct Accepted {
     pub outcome: Outcome,
     pub classes: [u8; 256],

@@ -1,12 +1,14 @@
 // The answers of the public operations, as enums. specs/Answers gives for each case of each enum the answer of `meaning` that it stands for:
 // verdict, refusal number, input and record, bytes used and the answer buffer at the end. The contracts read through it.
+#![tactic(auto)]
+
 ghost use Rattle.std.specs.Prelude.{◌≡◌};
 ghost use Rattle.op_answers.specs.Cases.{outcome_of, meant};
 
 use read_judged::Judged;
 
 // "A refusal returns number, input (1 profile, 2 question, 3 tree or proof, 4 answer buffer) and record number".
-#[derive(Drop)]
+#[derive(Clone, Copy)]
 pub struct Refusal {
     pub number: usize,
     pub input: usize,
@@ -22,14 +24,14 @@ pub const TREE_OR_PROOF: usize = 3;
 pub const ANSWER: usize = 4;
 
 // "read and rewrite a profile": so many bytes are used.
-#[derive(Drop)]
+#[derive(Clone, Copy)]
 pub enum Rewriting {
     Rewritten(usize),
     Refused(Refusal),
 }
 
 // "test inclusion of two paths".
-#[derive(Drop)]
+#[derive(Clone, Copy)]
 pub enum Inclusion {
     Included,
     NotIncluded,
@@ -38,7 +40,7 @@ pub enum Inclusion {
 
 // "the context node, the two target nodes, and for each key path one value-equal pair" (02, request 9): the smaller target first, and of a pair
 // the node below it. So many pairs as there are key paths, in their order; what stands behind them is 0.
-#[derive(Drop)]
+#[derive(Clone, Copy)]
 pub struct Witness {
     pub context: usize,
     pub first: usize,
@@ -55,7 +57,7 @@ pub struct Witness {
 }
 
 // "test whether a tree keeps a key": broken with the first witness.
-#[derive(Drop)]
+#[derive(Clone, Copy)]
 pub enum Keeping {
     Kept,
     Broken(Witness),
@@ -63,14 +65,14 @@ pub enum Keeping {
 }
 
 // "check a proof".
-#[derive(Drop)]
+#[derive(Clone, Copy)]
 pub enum Checking {
     Accepted,
     Refused(Refusal),
 }
 
 // "check a counterexample": accepted with the question's first witness; refusal 12 with the number of the lowest broken key and its first witness.
-#[derive(Drop)]
+#[derive(Clone, Copy)]
 pub enum Countering {
     Accepted(Witness),
     Breaks(usize, Witness),
@@ -78,14 +80,14 @@ pub enum Countering {
 }
 
 // "list a block of a tree": so many bytes are used.
-#[derive(Drop)]
+#[derive(Clone, Copy)]
 pub enum Listing {
     Listed(usize),
     Refused(Refusal),
 }
 
 // "decide a question": so many bytes are used.
-#[derive(Drop)]
+#[derive(Clone, Copy)]
 pub enum Deciding {
     Implied(usize),
     NotImplied(usize),
@@ -93,7 +95,7 @@ pub enum Deciding {
 }
 
 // 02's operations that fill an answer buffer: so many bytes are used. Which operation it was is said by its verdict in the contract.
-#[derive(Drop)]
+#[derive(Clone, Copy)]
 pub enum Filling {
     Filled(usize),
     Refused(Refusal),
@@ -105,7 +107,7 @@ pub const ANSWER_BYTES: usize = 65536;
 pub const SMALL_ANSWER: usize = 14;
 
 // What reading one input comes to, with the input's number.
-#[derive(Drop)]
+#[derive(Clone, Copy)]
 pub enum Outcome {
     Fine,
     Refused(Refusal),

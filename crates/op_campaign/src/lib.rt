@@ -1,5 +1,7 @@
 // Counting over a campaign (document 02, request 12), one segment's bytes at a time: what it comes to for each key, or by which number it is refused,
 // is added to a tally by value; the report prints a tally. Neither asks anything of its bytes or of the tally.
+#![tactic(auto)]
+
 pub mod marks;
 
 ghost use Rattle.std.specs.Prelude.{◌≡◌};

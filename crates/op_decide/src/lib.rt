@@ -1,5 +1,7 @@
 // "decide a question": profile and question as inputs 1 and 2, the answer buffer as input 4. No `requires`: it takes arbitrary bytes and
 // refuses by the numbered table.
+#![tactic(auto)]
+
 ghost use Rattle.meaning.specs.Operations.{Decides};
 ghost use Rattle.op_answers.specs.Cases.{deciding_answer};
 

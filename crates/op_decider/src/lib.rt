@@ -1,5 +1,7 @@
 // The decider under an accepted profile and an accepted question: u and the steps that lead to it, then the proof where u is t, else the
 // tree (document 01, "implied with a proof .. not implied with a tree").
+#![tactic(auto)]
+
 ghost use Rattle.std.specs.Prelude.{◌<◌, ◌≤◌, true, ◌≡◌, length};
 ghost use Rattle.meaning.specs.Records.{read_key, key_in, is_some};
 ghost use Rattle.read_record.specs.Classes.{class_by};

@@ -1,6 +1,8 @@
 // Lean profiles (document 02, request 3): "The result is a profile with the same labels, a proof for each dropped key from the final keys, and the
 // numbers of the dropped keys"; "The proofs come one call for each key". Neither operation has a `requires`: each takes arbitrary bytes and refuses by
 // the numbered table.
+#![tactic(auto)]
+
 pub mod accepted;
 
 ghost use Rattle.std.specs.Prelude.{◌-◌, ◌≡◌, ◌++◌, length, take, replicate};
@@ -15,7 +17,7 @@ use op_answers::{ANSWER_BYTES, Filling, Outcome, Refusal, small_answer};
 use write_chosen::records::PROFILE_KEYS;
 
 // What reducing comes to: the bytes used or the refusal, and the numbers of the dropped keys.
-#[derive(Drop)]
+#[derive(Clone, Copy)]
 pub struct Lean {
     pub answer: Filling,
     pub dropped: [usize; PROFILE_KEYS],

@@ -1,5 +1,7 @@
 // Which keys of a profile stay (document 02, request 3): "go from the last key to the first and drop a key when it is implied by those still there".
 // When a key is looked at, all keys before it are still there, and of those behind it the ones that stay.
+#![tactic(auto)]
+
 ghost use Rattle.std.specs.Prelude.{◌<◌, ◌≡◌, length};
 ghost use Rattle.op_lean_keys.specs.Searching.{Asking, Follows, Keyed, KeyFollows};
 ghost use Rattle.op_lean_keys.specs.Turning.{Reduced};

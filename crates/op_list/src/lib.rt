@@ -1,4 +1,6 @@
 // "list a block of a tree": profile as input 1, tree as input 3, block number, answer buffer.
+#![tactic(auto)]
+
 ghost use Rattle.std.specs.Prelude.{ℕ, ◌≤◌, List, length};
 ghost use Rattle.meaning.specs.Operations.{Lists};
 ghost use Rattle.op_accept.specs.Taken.{AcceptedIn, Tables};

@@ -1,4 +1,6 @@
 // "check a proof": profile, question and proof as inputs 1, 2 and 3. No `requires`: it takes arbitrary bytes and refuses by the numbered table.
+#![tactic(auto)]
+
 ghost use Rattle.meaning.specs.Operations.{ChecksProof};
 ghost use Rattle.op_answers.specs.Cases.{checking_answer};
 

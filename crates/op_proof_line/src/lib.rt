@@ -1,5 +1,7 @@
 // The key of one line of an accepted proof, in plain text as `op_write_line` writes a question. No `requires`: it takes arbitrary bytes and refuses
 // by the numbered table.
+#![tactic(auto)]
+
 ghost use Rattle.std.specs.Prelude.{◌≤◌, length};
 ghost use Rattle.meaning.specs.Operations.{line_written};
 ghost use Rattle.meaning.specs.ProofText.{line_text, WritesProofLine};

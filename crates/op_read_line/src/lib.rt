@@ -1,4 +1,6 @@
 // 02, request 1, the reader of keys in plain text: profile as input 1, the line as input 2, answer buffer.
+#![tactic(auto)]
+
 ghost use Rattle.std.specs.Prelude.{◌≤◌, length};
 ghost use Rattle.meaning.specs.Operations.{key_read};
 ghost use Rattle.meaning.specs.Text.{ReadsLine};

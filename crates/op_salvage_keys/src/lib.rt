@@ -1,4 +1,6 @@
 // 02, request 7: "Keys are judged over what is left": a line for each profile key that a tree breaks, with its first witness.
+#![tactic(auto)]
+
 ghost use Rattle.std.specs.Prelude.{◌+◌, ◌<◌, ◌≤◌, length};
 ghost use Rattle.meaning.specs.Records.{key_in};
 ghost use Rattle.tree_table.specs.FileTable.{file_table, class_by, TreeBytes};

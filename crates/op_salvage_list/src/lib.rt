@@ -1,4 +1,6 @@
 // 02, request 7: "lists every dropped record", "in blocks of 1,024 lines"; then the keys that what is left breaks.
+#![tactic(auto)]
+
 ghost use Rattle.std.specs.Prelude.{ℕ, ◌≤◌, ◌≡◌, List, length};
 ghost use Rattle.meaning.specs.Operations.{listed, records_from};
 ghost use Rattle.meaning.specs.Salvage.{ListsSalvage};

@@ -1,5 +1,7 @@
 // The state of a campaign (document 02, request 12), by value: a count for each key number and for each refusal number, and of the unreadable names.
 // A count stops at what two bytes hold, so that nothing is asked of a tally; the 200 inputs of a campaign stay far below.
+#![tactic(auto)]
+
 ghost use Rattle.std.specs.Prelude.{◌≤◌, ◌<◌, ◌≡◌, length};
 ghost use Rattle.meaning.specs.Tally.{no_tally, bump, AddsUnread};
 ghost use Rattle.op_tally.specs.Counting.{tally_of, RefusedMore, KeyMore, KeysMore};
@@ -11,7 +13,7 @@ pub const NUMBERS: usize = 20;
 
 const MOST: u16 = 65535;
 
-#[derive(Drop)]
+#[derive(Clone, Copy)]
 pub struct Tally {
     pub kept: [u16; PROFILE_KEYS],
     pub broken: [u16; PROFILE_KEYS],

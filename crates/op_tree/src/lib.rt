@@ -1,4 +1,6 @@
 // "test whether a tree keeps a key; check a counterexample" (document 01, "What the work covers"). Neither asks anything of its bytes.
+#![tactic(auto)]
+
 ghost use Rattle.std.specs.Prelude.{ℕ, List};
 ghost use Rattle.meaning.specs.Operations.{TestsTree, ChecksCounterexample};
 ghost use Rattle.op_accept.specs.Taken.{AcceptedIn, Tables};

@@ -1,4 +1,6 @@
 // The answers for an accepted question and an accepted tree: whether the tree keeps a key, and whether it is a counterexample.
+#![tactic(auto)]
+
 ghost use Rattle.std.specs.Prelude.{ℕ, ◌≡◌, List};
 ghost use Rattle.meaning.specs.Operations.{TestsTree, ChecksCounterexample};
 ghost use Rattle.op_accept.specs.Taken.{AcceptedIn};

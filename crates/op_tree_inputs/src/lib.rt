@@ -1,4 +1,6 @@
 // "the refusals of profile, question and tree in their order": question, then tree.
+#![tactic(auto)]
+
 ghost use Rattle.op_tree_inputs.specs.Inputs.{BothSay};
 
 use op_answers::{Outcome, QUESTION, TREE_OR_PROOF, of_input};

@@ -1,4 +1,6 @@
 // Whether an accepted tree breaks a key, and the first profile key that it breaks, with the first witness, over tables that serve all keys.
+#![tactic(auto)]
+
 ghost use Rattle.meaning.specs.Records.{key_in};
 ghost use Rattle.tree_table.specs.FileTable.{file_table, class_by};
 ghost use Rattle.tree_rows.specs.Prepared.{Prepared};
@@ -19,7 +21,7 @@ use tree_sorted::sorted::SORTED;
 use tree_witness::witness;
 
 // What testing a key finds: that the tree keeps it, or the first witness.
-#[derive(Drop)]
+#[derive(Clone, Copy)]
 pub enum Tested {
     Kept,
     Broken(Witness),
@@ -57,7 +59,7 @@ pub fn test_key(
 }
 
 // A key by its number, with the first context and targets against it.
-#[derive(Drop)]
+#[derive(Clone, Copy)]
 pub struct Lowest {
     pub key: usize,
     pub context: usize,

@@ -1,5 +1,7 @@
 // Shorter proofs (02, request 10): "a trimming pass that takes an accepted proof". Lines are looked at where they stand: no part of the proof is
 // copied but into the answer buffer.
+#![tactic(auto)]
+
 ghost use Rattle.std.specs.Prelude.{ℕ, ◌≤◌, List, length};
 ghost use Rattle.meaning.specs.Operations.{trimmed};
 ghost use Rattle.meaning.specs.Trimming.{Trims, trimmed_proof};

@@ -1,5 +1,7 @@
 // The writer of keys in plain text (document 02, request 1): "one key a line in the manner of document 001". No `requires`: it takes arbitrary bytes and
 // refuses by the numbered table.
+#![tactic(auto)]
+
 ghost use Rattle.std.specs.Prelude.{◌≤◌, length};
 ghost use Rattle.meaning.specs.Refusals.{question_in};
 ghost use Rattle.meaning.specs.Operations.{labels_in, line_written};

@@ -1,5 +1,7 @@
 // Words and inclusion (document 01, "Trees, paths and keys"; ARGUMENT §1). A path and a run of labels are slices of symbols; each
 // contract cites the definition in `meaning`.
+#![tactic(auto)]
+
 ghost use Rattle.std.specs.Prelude.{◌≡◌, [], ◌-◌, ◌≤◌, ◌<◌, length, get_or};
 ghost use Rattle.meaning.specs.Paths.{member as is_member};
 ghost use Rattle.path_words.specs.Search.{Told};
@@ -10,7 +12,7 @@ pub const ANY_PATH: u8 = 0;
 
 // What a search for a word says: the run is a word, it is none, or it is none and no end of it is one: then an any-path further out,
 // which can only offer less of the run, need not try again.
-#[derive(Drop)]
+#[derive(Clone, Copy)]
 pub enum Membership {
     Word,
     NoWord,

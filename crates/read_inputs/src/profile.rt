@@ -25,7 +25,7 @@ const SECOND_EDITION: usize = 2;
 
 // What a profile comes to: the refusal; where there is none, the class of each label (0: not declared), whether it is of edition 2, how many records
 // stand before the keys, and how many keys there are.
-#[derive(Drop)]
+#[derive(Clone, Copy)]
 pub struct ProfileRead {
     pub judged: Judged,
     pub classes: [u8; 256],

@@ -1,7 +1,8 @@
 // What reading one input comes to: document 01, "A refusal returns number, input .. and record number".
+#![tactic(auto)]
 
 // `Refused` holds the number and the record's; the input is the reader's to say (specs/Answers: `refusal_of`).
-#[derive(Drop)]
+#[derive(Clone, Copy)]
 pub enum Judged {
     Sound,
     Refused(usize, usize),

@@ -14,7 +14,7 @@ use read_typed::set::{KEY_PATHS, read_set};
 use write_order::ORDERED_BYTES;
 
 // The number that a line gives, 0 for none, and the bytes of its key's record.
-#[derive(Drop)]
+#[derive(Clone, Copy)]
 pub struct LineRead {
     pub number: usize,
     pub used: usize,

@@ -1,5 +1,7 @@
 // The names of a campaign's list (document 02, request 12: "segment files, named one a line"), as parts of the caller's bytes. Names are parted by
 // newlines, and a last newline ends the last name.
+#![tactic(auto)]
+
 ghost use Rattle.std.specs.Prelude.{◌≡◌, length};
 ghost use Rattle.meaning.specs.Campaign.{names_in};
 ghost use Rattle.theory_campaign.specs.Listings.{first_name, after_name};

@@ -1,4 +1,6 @@
 // The keys of a profile (document 01, "Refusal numbers"), from the first record that is no label's on.
+#![tactic(auto)]
+
 ghost use Rattle.std.specs.Prelude.{◌≡◌, false};
 ghost use Rattle.read_entry.specs.Agree.{is_label_record};
 ghost use Rattle.read_profile_keys.specs.KeyWalks.{KeysSay};
@@ -9,7 +11,7 @@ use read_judged::{ACCEPTED, KEY_TWICE};
 use read_record::fields::{HEAD_BYTES, word};
 
 // What the keys come to: the number of the first record that is refused (0: none), and how many keys stand before it.
-#[derive(Drop)]
+#[derive(Clone, Copy)]
 pub struct KeysRead {
     pub number: usize,
     pub keys: usize,

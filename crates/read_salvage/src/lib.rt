@@ -1,3 +1,5 @@
 // What can be kept of a damaged tree file: document 02, request 7.
+#![tactic(auto)]
+
 pub mod records;
 pub mod salvage;

@@ -19,7 +19,7 @@ use write_bytes::put;
 pub const RECORDS: usize = 11264;
 
 // How many nodes were kept, of how many records.
-#[derive(Drop)]
+#[derive(Clone, Copy)]
 pub struct Counts {
     pub nodes: usize,
     pub records: usize,

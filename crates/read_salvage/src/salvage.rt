@@ -15,7 +15,7 @@ use tree_table::fields::{bytes_of, node_kind};
 
 // What the walk comes to: the refusal (7 by its size, 8 without a valid node 0), else the bytes used in `out`, how many records were passed, and
 // the fault that stopped the walk, 1 or 0.
-#[derive(Drop)]
+#[derive(Clone, Copy)]
 pub struct Passed {
     pub judged: Judged,
     pub used: usize,

@@ -31,7 +31,7 @@ fn low(n: usize) -> u8
 }
 
 // The highest that a symbol of the path comes to, how many symbols it has, and those that fit with their number before them.
-#[derive(Drop)]
+#[derive(Clone, Copy)]
 pub struct PathRead {
     pub highest: usize,
     pub count: usize,

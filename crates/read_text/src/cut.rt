@@ -9,7 +9,7 @@ pub const OPEN_BYTES: usize = 1;
 pub const MARK_BYTES: usize = 3;
 
 // Whether the marks stand where they have to; and where the texts of context, target and set end.
-#[derive(Drop)]
+#[derive(Clone, Copy)]
 pub struct Cut {
     pub is: bool,
     pub context: usize,

@@ -17,7 +17,7 @@ pub const KEY_PATHS: usize = 4;
 
 // The highest that a symbol of the set comes to; whether each path passes 4; how many paths there are; and the bytes that they take in record
 // order, where they are not too many.
-#[derive(Drop)]
+#[derive(Clone, Copy)]
 pub struct SetRead {
     pub highest: usize,
     pub fits: bool,

@@ -1,5 +1,7 @@
 // Where record n of an input stands (document 01, "Every record: length of the whole record"), as a part of the caller's bytes: the body
 // lookup and rule 0 use it. It asks nothing of the bytes.
+#![tactic(auto)]
+
 pub mod walker;
 
 ghost use Rattle.std.specs.Prelude.{◌≡◌, ◌<◌};

@@ -1,11 +1,11 @@
-// The record walker (document 01, "Every record: length of the whole record"): the input and a position in it. Its functions are thin: each is
-// proved by hand, and leaves the work to `step_from`, whose parameters are plain. Callers have `step`, and see no walker.
+// The record walker (document 01, "Every record: length of the whole record"): the input and a position in it. Its functions are thin: each
+// leaves the work to `step_from`, whose parameters are plain. Callers have `step`, and see no walker.
 ghost use Rattle.std.specs.Prelude.{◌≡◌};
 ghost use Rattle.read_walker.specs.Steps.{place_after};
 
 use crate::front_length;
 
-#[derive(Drop)]
+#[derive(Clone, Copy)]
 pub struct Walker<'a> {
     pub src: &'a [u8],
     pub at: usize,

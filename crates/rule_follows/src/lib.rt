@@ -1,5 +1,7 @@
 // Whether one line follows: "Rule 0 cites key number *first premise* of the profile. In the others, premises are earlier line numbers; an
 // unused premise field is 65535."
+#![tactic(auto)]
+
 ghost use Rattle.std.specs.Prelude.{◌≡◌};
 ghost use Rattle.meaning.specs.Records.{read_line};
 ghost use Rattle.meaning.specs.Rules.{line_keys};

@@ -1,5 +1,7 @@
 // What the rules of inference ask of paths beside words (document 01, "Rules of inference"): a beginning, and joins,
 // which are tested against a path that is there and never built.
+#![tactic(auto)]
+
 ghost use Rattle.std.specs.Prelude.{◌≡◌, ◌++◌};
 ghost use Rattle.meaning.specs.Lists.{same as is_same};
 ghost use Rattle.meaning.specs.Paths.{join};

@@ -1,4 +1,6 @@
 // The premises of a line: "Rule 0 cites key number *first premise* of the profile. In the others, premises are earlier line numbers".
+#![tactic(auto)]
+
 ghost use Rattle.std.specs.Prelude.{◌≡◌, true, drop};
 ghost use Rattle.meaning.specs.Records.{read_key, key_in, is_some, record_body};
 ghost use Rattle.meaning.specs.Rules.{line_keys};

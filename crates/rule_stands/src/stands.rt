@@ -10,7 +10,7 @@ use read_record::fields::{HEAD_BYTES, word};
 pub const PROOF_LINES: usize = 256;
 
 // The place of each line in the proof, and how many there are.
-#[derive(Drop)]
+#[derive(Clone, Copy)]
 pub struct Stands {
     pub at: [usize; PROOF_LINES],
     pub count: usize,

@@ -1,4 +1,6 @@
 // The tenth rule, of edition 2 (document 02, request 5).
+#![tactic(auto)]
+
 ghost use Rattle.std.specs.Prelude.{◌≡◌};
 ghost use Rattle.meaning.specs.Records.{read_line};
 ghost use Rattle.meaning.specs.Paths.{singles};

@@ -195,7 +195,7 @@ fn cut_context(p: &[u8], k: &[u8]) -> bool
     join_is(old, &whole[..more], new)
 }
 
-// "7. context target: X and Y exist with X.Y = T; gives (C.X, (Y, S)). A single `◌*` may split into two."
+// "7. context target: X and Y exist with X.Y = T; gives (C.X, (Y, S)). A single `_*` may split into two."
 pub fn context_target(p: &[u8], k: &[u8]) -> bool
     requires { LineKeys p.now k.now }
     ensures { result ≡ context_target_test (key_in p.now) (key_in k.now) }

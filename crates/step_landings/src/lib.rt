@@ -1,4 +1,6 @@
 // "every key path p of s lands": where a profile key's key path, read along a row of the asked key, ends on a mark.
+#![tactic(auto)]
+
 ghost use Rattle.std.specs.Prelude.{◌≡◌, true, length};
 ghost use Rattle.meaning.specs.Lists.{every, any, numbers};
 ghost use Rattle.meaning.specs.Records.{read_key, key_in, is_some};

@@ -1,5 +1,7 @@
 // ARGUMENT §4: "The pattern of 01 needs no tree in memory. Write row j = C ++ T ++ P_j". The asked key's rows, one for each of its key
 // paths, each as "length and symbols", so that a row is read as a path is read in a key body.
+#![tactic(auto)]
+
 ghost use Rattle.std.specs.Prelude.{◌+◌, ◌*◌, ◌≡◌, ◌++◌};
 ghost use Rattle.meaning.specs.Records.{key_in, path_bytes};
 ghost use Rattle.theory_pattern.specs.Spots.{chain_of};

@@ -14,7 +14,7 @@ use step_landings::{all_land, chain_end};
 use step_rows::row;
 
 // A remembered step: profile key number `key` lets spot (branch, spot) step to chain node `node`.
-#[derive(Drop)]
+#[derive(Clone, Copy)]
 pub struct Taken {
     pub key: usize,
     pub node: usize,
@@ -23,7 +23,7 @@ pub struct Taken {
 }
 
 // What a search finds.
-#[derive(Drop)]
+#[derive(Clone, Copy)]
 pub enum Fire {
     At(Taken),
     None,

@@ -14,7 +14,7 @@ use step_rows::draw;
 pub const MOST_STEPS: usize = 8;
 
 // The final u, and the remembered steps in the order taken: the first `count` of them.
-#[derive(Drop)]
+#[derive(Clone, Copy)]
 pub struct FinalU {
     pub u: usize,
     pub count: usize,

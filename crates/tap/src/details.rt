@@ -20,7 +20,7 @@ const BREAKS_A_KEY: usize = 12;
 const WORD: usize = 65536;
 
 // "verdict .., refusal number, input, record, bytes used (0 if none)"
-#[derive(Drop)]
+#[derive(Clone, Copy)]
 pub struct Fields {
     pub verdict: usize,
     pub number: usize,

@@ -1,5 +1,7 @@
 // Calls from the tap's firmware: document 02, request 14. Each is one of the public operations under a C name, on byte slices; a slice crosses as a
 // pointer and a length. include/culvertecho.h has the prototypes. No `requires`: a call takes arbitrary bytes.
+#![tactic(auto)]
+
 mod details;
 
 ghost use Rattle.std.specs.Prelude.{[]};

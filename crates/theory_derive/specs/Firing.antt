@@ -28,6 +28,7 @@ pub mem_numbers : (count n : ℕ) {x : ℕ} → Memᴰ x (numbers count n) → (
 unfolding numbers
 mem_numbers (suc count) n (Memᴰ.head e) = (omega arith, omega arith)
 mem_numbers (suc count) n {x} (Memᴰ.tail m) = let r = mem_numbers count (suc n) m in (omega arith, omega arith)
+mem_numbers zero n {x = x} x3 = elim x3 [ ]
 
 module _ (asked : Key) where
   lands_on_lem : (j k at : ℕ) (p : List ℕ) → at < length asked.paths → (t_of asked < k → at ≡ j) → T (lands_on asked k p at) → LandsAt asked j k p

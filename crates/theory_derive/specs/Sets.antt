@@ -111,12 +111,12 @@ insert_ascending p (q ∷ qs) a = go (placed p q qs)
 pub each_unite : {Q : List ℕ → Type 0} {qs : List (List ℕ)} {ps : List (List ℕ)} → Each Q qs → Each Q ps → Each Q (unite qs ps)
 unfolding unite
 each_unite e end = e
-each_unite e (also {x} y f) = each_unite (each_insert x y e) f
+each_unite {Q = Q} {qs = qs} e (also {x = x} {xs = xs} y f) = each_unite {qs = insert x qs} (each_insert x y e) f
 
 pub unite_first : {x : List ℕ} {qs : List (List ℕ)} (ps : List (List ℕ)) → Memᴰ x qs → Memᴰ x (unite qs ps)
 unfolding unite
 unite_first [] m = m
-unite_first (p ∷ ps) m = unite_first ps (insert_old p m)
+unite_first {x = x} {qs = qs} (p ∷ ps) m = unite_first {qs = insert p qs} ps (insert_old p m)
 
 pub unite_second : {x : List ℕ} (qs : List (List ℕ)) {ps : List (List ℕ)} → Memᴰ x ps → Memᴰ x (unite qs ps)
 unfolding unite

@@ -85,6 +85,7 @@ module _ {A : Type 0} (f : A → Bool) where
   unfolding every
   every_each (y ∷ xs) t x (Memᴰ.head e) = subst (λ (z : A). T (f z)) (sym e) (and_left (f y) (every f xs) t)
   every_each (y ∷ xs) t x (Memᴰ.tail m) = every_each xs (and_right (f y) (every f xs) t) x m
+  every_each [] t x x4 = elim x4 [ ]
 
   pub each_every : (xs : List A) → ((x : A) → Memᴰ x xs → T (f x)) → T (every f xs)
   unfolding every
@@ -155,6 +156,7 @@ module _ {A : Type 0} {Q : A → Type 0} where
   pub Each-at : {xs : List A} → Each Q xs → (x : A) → Memᴰ x xs → Q x
   Each-at (also q e) x (Memᴰ.head p) = subst Q (sym p) q
   Each-at (also q e) x (Memᴰ.tail m) = Each-at e x m
+  Each-at end x x6 = elim x6 [ ]
 
   pub Each-of : (xs : List A) → ((x : A) → Memᴰ x xs → Q x) → Each Q xs
   Each-of [] h = end

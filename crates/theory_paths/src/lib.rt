@@ -1,1 +1,2 @@
 // Theorems only: ARGUMENT §1, words and paths. This crate has no code.
+#![tactic(auto)]

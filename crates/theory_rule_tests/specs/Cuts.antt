@@ -1,4 +1,4 @@
--- Rule 7 as a test: "X and Y exist with X.Y = T; gives (C.X, (Y, S)). A single `◌*` may split into two." Y is the new target, so it ends T,
+-- Rule 7 as a test: "X and Y exist with X.Y = T; gives (C.X, (Y, S)). A single `_*` may split into two." Y is the new target, so it ends T,
 -- and X is what stands before it, or that and the any-path with which Y begins.
 use Rattle.std.specs.Prelude.{ℕ, zero, suc, ◌-◌, ◌≡◌, refl, ◌⊎◌, Bool, true, false, ◌&&◌, ◌||◌, leb, length, take, drop}
 use Rattle.std.proofs.Math.Path.{sym, ap}

@@ -1,1 +1,2 @@
 // Laws of the salvage of a damaged tree file: document 02, request 7.
+#![tactic(auto)]

@@ -103,6 +103,7 @@ module _ {κ : ℕ → Class} {t : Table} where
   list_mate (paired e r) (Memᴰ.tail m) =
       let s = list_mate r m in
       record { node = s.node; among = Memᴰ.tail s.among; equal = s.equal }
+  list_mate ended x5 = elim x5 [ ]
 
   set_mate : {x : ℕ} {xs ys : List ℕ} → EqualSets κ t xs ys → Memᴰ x xs → ListMate κ t ys x
   set_mate (matched p e) m =

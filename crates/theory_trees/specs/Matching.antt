@@ -20,6 +20,7 @@ perm_mem (Permᴰ.swap e f) (Memᴰ.head p) = Memᴰ.tail (Memᴰ.head (p ∙ e)
 perm_mem (Permᴰ.swap e f) (Memᴰ.tail (Memᴰ.head p)) = Memᴰ.head (p ∙ f)
 perm_mem (Permᴰ.swap e f) (Memᴰ.tail (Memᴰ.tail m)) = Memᴰ.tail (Memᴰ.tail m)
 perm_mem (Permᴰ.trans d e) m = perm_mem e (perm_mem d m)
+perm_mem Permᴰ.nil m = elim m [ ]
 
 unfoldable pub one_if : Bool → ℕ
 one_if true = 1

@@ -71,6 +71,7 @@ pub data Rising : ℕ → List ℕ → Type 0 where
 pub rising_least : {lo : ℕ} {xs : List ℕ} → Rising lo xs → (x : ℕ) → Memᴰ x xs → lo ≤ x
 rising_least (rises h r) x (Memᴰ.head e) = omega arith
 rising_least (rises h r) x (Memᴰ.tail m) = let k = rising_least r x m in omega arith
+rising_least (risen {lo = lo}) x x8 = elim x8 [ ]
 
 -- a greater one at the end
 pub rising_more : {lo : ℕ} {xs : List ℕ} → Rising lo xs → (n : ℕ) → lo ≤ n → ((x : ℕ) → Memᴰ x xs → x < n) → Rising lo (xs ++ (n ∷ []))

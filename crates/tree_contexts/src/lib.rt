@@ -1,6 +1,8 @@
 // The highest context of each node (document 01, "for each node q reached from the root by C and any two different nodes a, b reached from q by
 // T"): numbers are handed down the whole tree in place, symbol by symbol, and each node keeps the least. Contexts are what the root alone reaches,
 // so they are found in the same way.
+#![tactic(auto)]
+
 ghost use Rattle.std.specs.Prelude.{◌≡◌, [], ◌∷◌, ◌<◌, length};
 ghost use Rattle.tree_table.specs.FileTable.{file_table, TreeBytes};
 ghost use Rattle.tree_rows.specs.Prepared.{Prepared};

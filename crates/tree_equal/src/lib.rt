@@ -1,6 +1,8 @@
 // Value equality of two nodes (document 01, "Trees, paths and keys"): "equality of two nodes calls equality of their child lists, which calls
 // node equality again; nodes left below fall." Nodes from number `from` on have their families already and are compared by them, so a call
 // costs the children of x and y.
+#![tactic(auto)]
+
 mod attributes;
 mod children;
 

@@ -1,5 +1,7 @@
 // The rows of a tree, filled in place: parents, labels, child links, the family of each node (the smallest node equal to it, found among nodes of the
 // same weight by `node_eq`, from the back), and the next node of its family.
+#![tactic(auto)]
+
 ghost use Rattle.std.specs.Prelude.{◌≡◌, ℕ, ◌+◌, ◌<◌, ◌≤◌, length, get_or};
 ghost use Rattle.meaning.specs.Trees.{Equal};
 ghost use Rattle.tree_table.specs.FileTable.{file_table, class_by, TreeBytes};
@@ -129,7 +131,8 @@ fn leader(
     x
 }
 
-// A family for each node, from the back.
+// A family for each node, from the back. Not drawn into its caller, so that its tables take stack only while it runs.
+#[inline(never)]
 fn gather(tree: &[u8], classes: &[u8; 256], weight: &[u32; TREE_NODES], rows: &mut [u16; ROWS])
     requires { LinkedTree classes.now tree.now (row 8192 rows.old) (row 12288 rows.old) × Weighed (class_by classes.now) (file_table tree.now) weight.now × (length rows.old ≡ 24576) }
     ensures { Gathered classes.now tree.now rows.old rows.new }

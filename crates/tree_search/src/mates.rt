@@ -17,7 +17,7 @@ use tree_rows::rows::ROWS;
 use tree_sorted::sorted::{CHAIN, LEAD, NUMBER, SORTED, TOP, entry};
 
 // A target, the key path that its mates are looked for along, and the least of them so far; 4,096 where there is none.
-#[derive(Drop)]
+#[derive(Clone, Copy)]
 pub struct Mated {
     pub pivot: usize,
     pub a: usize,

@@ -25,7 +25,7 @@ use tree_table::fields::size;
 use tree_table::tables::at;
 
 // A witness against a key by its numbers: the context, and two different targets, the smaller first.
-#[derive(Drop)]
+#[derive(Clone, Copy)]
 pub struct BrokenAt {
     pub found: bool,
     pub context: usize,

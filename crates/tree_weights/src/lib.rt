@@ -2,6 +2,8 @@
 // order of those that are no attributes, mixed into 32 bits, such that value-equal nodes have equal weights: attributes count in whatever order.
 // The low part of a weight counts the nodes from there down, exactly, since a sum keeps it and no node but the root has 4,096. So nodes of one
 // weight never lie below each other, and all calls of `node_eq` on them together visit at most the square of the nodes, whatever else collides.
+#![tactic(auto)]
+
 ghost use Rattle.std.specs.Prelude.{◌≡◌, ℕ, ◌<◌, length, get_or};
 ghost use Rattle.tree_table.specs.FileTable.{file_table, class_by, TreeBytes};
 ghost use Rattle.tree_weights.specs.Sums.{unless_attribute};
@@ -64,6 +66,8 @@ fn no_weights() -> [u32; TREE_NODES]
     [0u32; TREE_NODES]
 }
 
+// Not drawn into its caller, so that its tables take stack only while it runs.
+#[inline(never)]
 pub fn weigh(tree: &[u8], classes: &[u8; 256]) -> [u32; TREE_NODES]
     requires { TreeBytes classes.now tree.now }
     ensures { Weighed (class_by classes.now) (file_table tree.now) result }

@@ -1,5 +1,7 @@
 // The first witness against a key (02, request 9): the first context and targets are known, and each key path has its first value-equal pair below
 // them. The nodes that a key path reaches from a node stand in a list that ascends, so the first of a family is the least.
+#![tactic(auto)]
+
 ghost use Rattle.std.specs.Prelude.{◌≡◌, [], ℕ, ◌<◌, length, get_or};
 ghost use Rattle.meaning.specs.Lists.{Each};
 ghost use Rattle.meaning.specs.Keys.{EqualPair};

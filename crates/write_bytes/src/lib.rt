@@ -1,4 +1,6 @@
 // Bytes written into a lent buffer from a place on: what stands before and behind them stays. The listing, the proof lines and the tree use it.
+#![tactic(auto)]
+
 ghost use Rattle.std.specs.Prelude.{◌+◌, ◌≤◌, length};
 ghost use Rattle.write_bytes.specs.Wrote.{Wrote};
 

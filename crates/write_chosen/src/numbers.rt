@@ -7,7 +7,7 @@ ghost use Rattle.write_chosen.specs.Dropping.{NumberIf, is_gone};
 use crate::records::PROFILE_KEYS;
 
 // The first `count` numbers; behind them all are 0.
-#[derive(Drop)]
+#[derive(Clone, Copy)]
 pub struct Dropped {
     pub numbers: [usize; PROFILE_KEYS],
     pub count: usize,

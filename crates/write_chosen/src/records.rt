@@ -11,7 +11,7 @@ use write_bytes::put;
 pub const PROFILE_KEYS: usize = 64;
 
 // Where the records end, and how many there are.
-#[derive(Drop)]
+#[derive(Clone, Copy)]
 pub struct Chosen {
     pub end: usize,
     pub count: usize,

@@ -1,4 +1,6 @@
 // The bytes of one proof line, written into a lent buffer from a place on: document 01, "Records", kind 4. What stands before and behind stays.
+#![tactic(auto)]
+
 ghost use Rattle.std.specs.Prelude.{◌≡◌, [], ◌∷◌, ◌+◌, ◌<◌, ◌≤◌, length};
 ghost use Rattle.meaning.specs.Paths.{norm};
 ghost use Rattle.meaning.specs.Records.{word_bytes, path_bytes, line_bytes};
@@ -17,7 +19,7 @@ use write_bytes::put;
 const KEY_LENGTHS: usize = 3;
 
 // "rule (1), first premise (2), second premise (2)"
-#[derive(Drop)]
+#[derive(Clone, Copy)]
 pub struct Head {
     pub rule: usize,
     pub first: usize,

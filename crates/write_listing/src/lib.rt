@@ -1,4 +1,6 @@
 // The listing's lines, written into a lent buffer (document 01, "The listing program").
+#![tactic(auto)]
+
 ghost use Rattle.std.specs.Prelude.{◌+◌, ◌*◌, ◌<◌, ◌≤◌, length};
 ghost use Rattle.meaning.specs.Listing.{decimal};
 ghost use Rattle.tree_table.specs.FileTable.{file_table, class_by, TreeBytes};

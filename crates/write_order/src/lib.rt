@@ -1,4 +1,6 @@
 // 02, request 1: "Key paths may be typed in whichever order and are put into record order". The paths stand in a lent buffer as in a record.
+#![tactic(auto)]
+
 ghost use Rattle.std.specs.Prelude.{◌≡◌, true};
 ghost use Rattle.read_record.specs.BodyParts.{paths_end};
 ghost use Rattle.write_order.specs.Places.{PlaceIn};

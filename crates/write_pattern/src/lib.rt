@@ -1,4 +1,6 @@
 // The pattern of the asked key, drawn node after node: document 01, "The counterexample that is written".
+#![tactic(auto)]
+
 ghost use Rattle.std.specs.Prelude.{◌≡◌, true, ◌&&◌, ◌||◌, ◌+◌, ◌*◌, ◌<◌, length};
 ghost use Rattle.meaning.specs.Records.{key_in};
 ghost use Rattle.meaning.specs.Pattern.{drawn as drawn_as};
@@ -21,7 +23,7 @@ const ROOT_LABEL: u8 = 203;
 
 // The numbers that the tree gives before it is doubled: at most 98, 2 for each of the pattern's 49 nodes. `above` is the number of the
 // node that the next one hangs under.
-#[derive(Drop)]
+#[derive(Clone, Copy)]
 pub struct Drawing {
     pub parents: [u8; 128],
     pub labels: [u8; 128],

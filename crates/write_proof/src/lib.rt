@@ -1,4 +1,6 @@
 // The proof that the decider writes: ARGUMENT, section 5. "Take every remembered step, last first".
+#![tactic(auto)]
+
 ghost use Rattle.std.specs.Prelude.{◌≡◌, [], ◌∷◌, ◌+◌, ◌≤◌, ◌<◌, length, cond, ltb};
 ghost use Rattle.meaning.specs.Records.{key_in};
 ghost use Rattle.meaning.specs.Pattern.{t_of};

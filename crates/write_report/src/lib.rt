@@ -1,5 +1,7 @@
 // The lines of a campaign's report (document 02, request 12), written into a lent buffer: "one line a key (number, kept, broken), then number and
 // count for each refusal number that occurred, ascending, then `unread` and the count of unreadable names".
+#![tactic(auto)]
+
 ghost use Rattle.std.specs.Prelude.{◌+◌, ◌≤◌, ◌<◌, ◌≡◌, length};
 ghost use Rattle.meaning.specs.Campaign.{report_bytes};
 ghost use Rattle.meaning.specs.Tally.{counts_of};

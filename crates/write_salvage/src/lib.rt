@@ -1,4 +1,6 @@
 // The lines of a salvage listing (02, request 7), each put into the lent buffer only where its number is one of the block's.
+#![tactic(auto)]
+
 pub mod lines;
 
 ghost use Rattle.std.specs.Prelude.{◌+◌, ◌<◌, ◌≤◌, ◌≡◌, cond, eqb, [], ◌∷◌, length};
@@ -14,7 +16,7 @@ use read_record::fields::wide;
 pub const BLOCK_LINES: usize = 1024;
 
 // Bytes written and lines passed so far.
-#[derive(Drop)]
+#[derive(Clone, Copy)]
 pub struct Put {
     pub at: usize,
     pub lines: usize,

@@ -1,4 +1,6 @@
 // Sets of key paths in a lent buffer, each as its count and its bytes: document 01, "Key paths stand shorter first, equal lengths by bytes, none twice".
+#![tactic(auto)]
+
 ghost use Rattle.std.specs.Prelude.{◌≡◌, true, ◌++◌, ◌+◌, ◌≤◌, ◌<◌, length, drop};
 ghost use Rattle.meaning.specs.Records.{path_bytes};
 ghost use Rattle.read_record.specs.BodyParts.{paths_end};
@@ -21,14 +23,14 @@ pub const SET_BYTES: usize = 256;
 pub const UNITED_BYTES: usize = 128;
 
 // Where a path belongs: behind so many bytes; held if it stands there already.
-#[derive(Drop)]
+#[derive(Clone, Copy)]
 pub struct Place {
     pub passed: usize,
     pub held: bool,
 }
 
 // So many paths in so many bytes at the front of a buffer.
-#[derive(Drop)]
+#[derive(Clone, Copy)]
 pub struct Set {
     pub count: usize,
     pub used: usize,

@@ -17,21 +17,21 @@ use write_line::{Head, put_number, put_path, write_line};
 use write_set::{SET_BYTES, UNITED_BYTES, insert_path, put_front};
 
 // The part of the asked row from one symbol up to another: a line's target; its context stands before.
-#[derive(Drop)]
+#[derive(Clone, Copy)]
 pub struct Span {
     pub from: usize,
     pub to: usize,
 }
 
 // Where a step's lines are written, and how many proof lines stand before them.
-#[derive(Drop)]
+#[derive(Clone, Copy)]
 pub struct Place {
     pub at: usize,
     pub lines: usize,
 }
 
 // A step from `spot` up to chain node `node`; the chain, C and T, has so many symbols.
-#[derive(Drop)]
+#[derive(Clone, Copy)]
 pub struct Step {
     pub chain: usize,
     pub node: usize,

@@ -1,5 +1,7 @@
 // A key in plain text (document 02, request 1), written into a lent buffer from a place on: `(port, (frame, {@seq, stamp}))`. What stands before
 // and behind it stays. The names are those of so many label records, which the part `labels` begins with.
+#![tactic(auto)]
+
 ghost use Rattle.std.specs.Prelude.{◌+◌, ◌≤◌, ◌≡◌, true, length};
 ghost use Rattle.meaning.specs.Records.{read_label, read_key, key_in, is_some};
 ghost use Rattle.meaning.specs.Text.{print_key, typed_of};
@@ -51,7 +53,7 @@ fn put_declared(out: &mut [u8], at: usize, labels: &[u8], count: usize, n: usize
     at
 }
 
-// "`◌*` for the any-path, `#` for text"
+// "`_*` for the any-path, `#` for text"
 fn put_symbol(out: &mut [u8], at: usize, labels: &[u8], count: usize, s: usize) -> usize
     requires { Standing 6 count labels.now × (at + length (symbol_text (labels_at count labels.now) s) ≤ length out.old) }
     ensures { Wrote out.old out.new at (symbol_text (labels_at count labels.now) s) result }

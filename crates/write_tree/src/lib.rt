@@ -1,4 +1,6 @@
 // The counterexample written into the answer buffer: document 01, "The counterexample that is written".
+#![tactic(auto)]
+
 ghost use Rattle.std.specs.Prelude.{◌≡◌, ◌+◌, ◌-◌, ◌*◌, ◌/◌, ◌%◌, ◌<◌, ◌≤◌, length};
 ghost use Rattle.meaning.specs.Records.{key_in, node_bytes};
 ghost use Rattle.read_record.specs.Classes.{class_by};

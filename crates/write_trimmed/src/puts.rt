@@ -14,7 +14,7 @@ use write_bytes::put;
 use write_line::{Head, put_head};
 
 // The two premise fields of a line.
-#[derive(Drop)]
+#[derive(Clone, Copy)]
 pub struct Fields {
     pub first: usize,
     pub second: usize,

@@ -1,0 +1,6 @@
+use Rattle.rule_joins.specs.Joins.{joined_same}
+use borrow.Author.Rules.{rules}
+use Rattle.rule_joins.proofs.join_is.Goals as goal
+
+pub returns : goal.returns
+returns c = search joined_same

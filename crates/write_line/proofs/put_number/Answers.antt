@@ -1,0 +1,6 @@
+use Rattle.write_bytes.specs.Wrote.{wrote_byte}
+use borrow.Author.Rules.{rules}
+use Rattle.write_line.proofs.put_number.Goals as goal
+
+pub returns : goal.returns
+returns c = search (wrote_byte)

@@ -1,0 +1,22 @@
+use native.Mathlib.Omega.{arith}
+use Rattle.read_record.specs.KeyPaths.{step_holds}
+use Rattle.write_order.specs.Places.{Seeking, seek_start, place_before, place_end, seek_next}
+use Rattle.write_order.proofs.find_place.Goals as goal
+
+pub loop-left-init : goal.loop-left-init
+loop-left-init c = seek_start _ _ _ c.requires
+
+pub lead_path-other-requires : goal.lead_path-other-requires
+lead_path-other-requires c = step_holds _ _ c.loop-left-test.true c.loop-left.invariant.ends
+
+pub returns-then-before : goal.returns-then-before
+returns-then-before c = place_before c.loop-left.invariant c.loop-left-test.true c.lead_path-other.ensures c.before-in-loop-left.ensures c.if-before.true
+
+pub after_path-next-requires : goal.after_path-next-requires
+after_path-next-requires c = step_holds _ _ c.loop-left-test.true c.loop-left.invariant.ends
+
+pub loop-left-preserved : goal.loop-left-preserved
+loop-left-preserved c = seek_next c.loop-left.invariant c.loop-left-test.true c.lead_path-other.ensures c.before-in-loop-left.ensures c.if-before.false c.after_path-next.ensures
+
+pub returns : goal.returns
+returns c = place_end c.loop-left.invariant c.loop-left-test.false

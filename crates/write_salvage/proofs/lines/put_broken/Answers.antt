@@ -1,0 +1,11 @@
+use native.Mathlib.Omega.{arith}
+use lib.ListN.{length-set}
+use Rattle.write_salvage.specs.Lines.{broken_wrote}
+use borrow.Author.Rules.{rules}
+use Rattle.write_salvage.proofs.lines.put_broken.Goals as goal
+
+pub shape_of-out : goal.shape_of-out
+shape_of-out c = simp length-set (omega arith)
+
+pub returns : goal.returns
+returns c = search (broken_wrote)
