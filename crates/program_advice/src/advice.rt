@@ -4,12 +4,12 @@ ghost use Rattle.program_advice.specs.Advice.{Follows, implied_by};
 
 use crate::candidates::{put_cut, put_with_path};
 use crate::keys::{keys_of, path_at, target_of};
-use check::same;
 use op_answers::{Deciding, Filling};
 use op_decide::decide;
 use op_write_line::write_line;
 use program_files::print;
 use program_layout::parts::part;
+use std::io;
 
 // "at most 16"
 pub const MOST_KEYS: usize = 16;
@@ -38,63 +38,77 @@ fn follows(profile: &[u8], candidate: &[u8], answer: &mut [u8]) -> bool
 }
 
 // A key is printed only where it follows: the `requires` is what `follows` gives.
-fn print_key(profile: &[u8], candidate: &[u8], answer: &mut [u8])
+fn print_key(rt: &impl Print, profile: &[u8], candidate: &[u8], answer: &mut [u8]) -> io::Result<()>
     requires { Follows profile.now candidate.now }
 {
     let written = write_line(profile, candidate, answer);
     if let Filling::Filled(used) = written {
-        print(part(answer, 0, used));
-        print(b"\n");
+        print(rt, part(answer, 0, used))?;
+        print(rt, b"\n")?;
     }
+    Ok(())
 }
 
 // Prints a candidate that follows. Here and below `printed` is how many keys were printed before, and the answer how many are now.
-fn print_candidate(profile: &[u8], candidate: &[u8], printed: usize, answer: &mut [u8]) -> usize {
+fn print_candidate(
+    rt: &impl Print,
+    profile: &[u8],
+    candidate: &[u8],
+    printed: usize,
+    answer: &mut [u8],
+) -> io::Result<usize> {
     if MOST_KEYS <= printed {
-        return printed;
+        return Ok(printed);
     }
     if follows(profile, candidate, answer) {
-        print_key(profile, candidate, answer);
-        return printed + 1;
+        print_key(rt, profile, candidate, answer)?;
+        return Ok(printed + 1);
     }
-    printed
+    Ok(printed)
 }
 
 fn print_cut(
+    rt: &impl Print,
     profile: &[u8],
     question: &[u8],
     cut: usize,
     printed: usize,
     answer: &mut [u8],
-) -> usize {
+) -> io::Result<usize> {
     let mut candidate = [0u8; CANDIDATE_ROOM];
     let used = put_cut(&mut candidate, question, cut);
-    print_candidate(profile, part(&candidate, 0, used), printed, answer)
+    print_candidate(rt, profile, part(&candidate, 0, used), printed, answer)
 }
 
 fn print_with_path(
+    rt: &impl Print,
     profile: &[u8],
     question: &[u8],
     path: &[u8],
     printed: usize,
     answer: &mut [u8],
-) -> usize {
+) -> io::Result<usize> {
     let mut candidate = [0u8; CANDIDATE_ROOM];
     let used = put_with_path(&mut candidate, question, path);
-    print_candidate(profile, part(&candidate, 0, used), printed, answer)
+    print_candidate(rt, profile, part(&candidate, 0, used), printed, answer)
 }
 
 // "the same key inside a longer context (T cut at each place)"
-fn print_cuts(profile: &[u8], question: &[u8], answer: &mut [u8]) -> usize {
+fn print_cuts(
+    rt: &impl Print,
+    profile: &[u8],
+    question: &[u8],
+    answer: &mut [u8],
+) -> io::Result<usize> {
     let limit = target_of(question).len();
     let mut printed = 0;
     let mut cut = 1;
     while cut < limit {
-        let more = print_cut(profile, question, cut, printed, answer);
+        let more = print_cut(rt, profile, question, cut, printed, answer)?;
         printed = more;
         cut += 1;
     }
-    printed
+    Ok(printed)
 }
 
 // Key path n of the keys stands among those before it.
@@ -102,7 +116,7 @@ fn tried(keys: &[u8], n: usize) -> bool {
     let path = path_at(keys, n);
     let mut i = 0;
     while i < n {
-        if same(path_at(keys, i), path) {
+        if path_at(keys, i) == path {
             return true;
         }
         i += 1;
@@ -111,39 +125,52 @@ fn tried(keys: &[u8], n: usize) -> bool {
 }
 
 fn print_path(
+    rt: &impl Print,
     profile: &[u8],
     question: &[u8],
     n: usize,
     printed: usize,
     answer: &mut [u8],
-) -> usize {
+) -> io::Result<usize> {
     let keys = keys_of(profile);
     let path = path_at(keys, n);
     if path.len() == 0 {
-        return printed;
+        return Ok(printed);
     }
     if tried(keys, n) {
-        return printed;
+        return Ok(printed);
     }
-    print_with_path(profile, question, path, printed, answer)
+    print_with_path(rt, profile, question, path, printed, answer)
 }
 
 // "with one key path more, taken from the key paths of profile keys that fit": one that stands in S already is refused as repeated.
-fn print_paths(profile: &[u8], question: &[u8], before: usize, answer: &mut [u8]) -> usize {
+fn print_paths(
+    rt: &impl Print,
+    profile: &[u8],
+    question: &[u8],
+    before: usize,
+    answer: &mut [u8],
+) -> io::Result<usize> {
     let mut printed = before;
     let mut n = 0;
     while n < MOST_PATHS {
-        let more = print_path(profile, question, n, printed, answer);
+        let more = print_path(rt, profile, question, n, printed, answer)?;
         printed = more;
         n += 1;
     }
-    printed
+    Ok(printed)
 }
 
 // For a question that is not implied: the keys near it that follow, or that there are none.
-pub fn print_near(profile: &[u8], question: &[u8], answer: &mut [u8]) {
-    let cuts = print_cuts(profile, question, answer);
-    if print_paths(profile, question, cuts, answer) == 0 {
-        print(b"nothing near\n");
+pub fn print_near(
+    rt: &impl Print,
+    profile: &[u8],
+    question: &[u8],
+    answer: &mut [u8],
+) -> io::Result<()> {
+    let cuts = print_cuts(rt, profile, question, answer)?;
+    if print_paths(rt, profile, question, cuts, answer)? == 0 {
+        print(rt, b"nothing near\n")?;
     }
+    Ok(())
 }

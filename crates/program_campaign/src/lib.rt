@@ -1,61 +1,71 @@
 // A campaign over files (document 02, request 12): each name of the list is opened, read and counted; the library sees one segment's bytes at a time.
 // The loop carries that the tally is that of as many inputs as names are done, so what is printed is the exact report over that list of inputs; that
 // each is what its file held is assumed of the system's calls.
+#![tactic(auto)]
+
 ghost use Rattle.meaning.specs.Operations.{reported};
 ghost use Rattle.op_answers.specs.Cases.{filling_answer};
 ghost use Rattle.op_tally.specs.Counting.{tally_of};
 ghost use Rattle.program_campaign.specs.Inputs.{AddsInput, NamesCounted, InputsRefused, IsCampaign};
 
-use libc::STDERR_FILENO;
 use op_answers::Filling;
 use op_campaign::{count_segment, report};
 use op_tally::{Tally, count_unread, no_counts};
 use program_files::{ANSWER_ROOM, TREE_READ, part_read, read_named, unread};
 use read_names::{after_name, first_name, name_count};
+use std::io;
+use std::io::{IsTerminal, Write};
+use std::rt::Files;
 
 // One name more: what its file holds, or that it cannot be read. An empty file is read.
-fn count_name(name: &[u8], profile: &[u8], t: Tally) -> Tally
+fn count_name(rt: &impl Files, name: &[u8], profile: &[u8], t: Tally) -> Tally
     ensures { AddsInput profile.now (tally_of t) (tally_of result) }
 {
     let mut tree = [0u8; TREE_READ];
-    let reading = read_named(name, &mut tree);
+    let reading = read_named(rt, name, &mut tree);
     if unread(reading) {
         return count_unread(t);
     }
     count_segment(profile, part_read(reading, &tree), t)
 }
 
-// For a person who waits: segments done, of how many, on standard error and over the line before. Standard output is the report's alone.
-fn show_progress(terminal: bool, done: usize, names: usize) {
-    if !terminal {
-        return;
-    }
-    io::write_all(STDERR_FILENO, b"\r");
-    io::print_decimal(STDERR_FILENO, done as u64);
-    io::write_all(STDERR_FILENO, b" of ");
-    io::print_decimal(STDERR_FILENO, names as u64);
-    io::write_all(STDERR_FILENO, b" segments");
+// Segments done, of how many, over the line before.
+fn write_progress(progress: &mut impl Write, done: usize, names: usize) -> io::Result<()> {
+    write!(progress, "\r{done} of {names} segments")?;
     if done == names {
-        io::write_all(STDERR_FILENO, b"\n");
+        progress.write_all(b"\n")?;
+    }
+    Ok(())
+}
+
+// For a person who waits, on standard error: standard output is the report's alone. Where it cannot be written, the counting goes on.
+fn show_progress(progress: &mut impl Write, terminal: bool, done: usize, names: usize) {
+    if terminal {
+        let _ = write_progress(progress, done, names);
     }
 }
 
 // "A repeated file name counts each time."
-fn count_names(list: &[u8], profile: &[u8]) -> Tally
+fn count_names(
+    rt: &impl Files,
+    progress: &mut (impl Write + IsTerminal),
+    list: &[u8],
+    profile: &[u8],
+) -> Tally
     ensures { NamesCounted list.now profile.now (tally_of result) }
 {
     let names = name_count(list);
-    let terminal = libc::isatty(STDERR_FILENO) == 1;
+    let terminal = progress.is_terminal();
     let mut rest = list;
     let mut t = no_counts();
     let mut done = 0;
     while 0 < rest.len() {
         let name = first_name(rest);
-        t = count_name(name, profile, t);
+        t = count_name(rt, name, profile, t);
         let next = after_name(rest);
         rest = next;
         done += 1;
-        show_progress(terminal, done, names);
+        show_progress(progress, terminal, done, names);
     }
     t
 }
@@ -73,11 +83,22 @@ fn inputs_refused(list: &[u8], profile: &[u8]) -> bool
 }
 
 // The report of the campaign at the front of the answer buffer; every byte behind it stays, and a refusal changes none.
-pub fn report_campaign(list: &[u8], profile: &[u8], answer: &mut [u8]) -> Filling
+pub fn report_campaign(
+    rt: &impl Files,
+    progress: &mut (impl Write + IsTerminal),
+    list: &[u8],
+    profile: &[u8],
+    answer: &mut [u8],
+) -> Filling
     ensures { IsCampaign list.now profile.now answer.old (filling_answer reported result answer.new) }
 {
     if inputs_refused(list, profile) {
         return report(list, profile, no_counts(), answer);
     }
-    report(list, profile, count_names(list, profile), answer)
+    report(
+        list,
+        profile,
+        count_names(rt, progress, list, profile),
+        answer,
+    )
 }

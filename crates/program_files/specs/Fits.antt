@@ -1,9 +1,12 @@
 -- What a reading answers: how many bytes stand at the front of the buffer that was lent. Of what they are no contract can speak.
-use Rattle.std.specs.Prelude.{List, ℕ, ◌≡◌}
+use Rattle.std.specs.Prelude.{List, ℕ, ◌≡◌, ◌≤◌, length, take}
 use Rattle.std.proofs.Common.{subst}
-use Rattle.io.specs.Counts.{IsPrefixLen}
 use Rattle.program_files.specs.declared.Reading.{Reading}
 use Rattle.program_files.specs.declared.Reading.TheVariants as R
+
+-- so many bytes stand at the front of the buffer; the second part follows from the first, and spares a caller's `&buffer[..count]` a proof file
+abbrev pub IsPrefixLen : ℕ → List ℕ → Type 0
+IsPrefixLen count buffer = (count ≤ length buffer) × (count ≡ length (take count buffer))
 
 abbrev pub Fits : Reading → List ℕ → Type 0
 Fits R.Unread buffer = Unit {0}

@@ -1,9 +1,13 @@
 // What the programs share: words and files by argument, and the lines that they print. Nothing that decides anything stands here.
-ghost use Rattle.std.specs.Prelude.{◌<◌, ◌≤◌};
-ghost use Rattle.program_files.specs.Fits.{Fits};
-ghost use Rattle.io.specs.Counts.{IsPrefixLen};
+#![tactic(auto)]
 
-use libc::STDOUT_FILENO;
+ghost use Rattle.std.specs.Prelude.{◌≡◌, ◌<◌, ◌≤◌, length, IfOk, OnErr};
+ghost use Rattle.program_files.specs.Fits.{Fits, IsPrefixLen};
+
+use std::env::FillError;
+use std::io::Read;
+use std::rt::{Env, Files};
+use std::{fs, io, str};
 
 // How many bytes a program reads of each input: one more than 01 allows, so that a larger file is refused by its size, or a path by 4; of a
 // question, which has no size, two records of the greatest length and a byte.
@@ -20,51 +24,68 @@ pub const PATH_READ: usize = 33;
 // "it is under 65,536 bytes" is what 14 refuses.
 pub const ANSWER_ROOM: usize = 65536;
 
+// How many bytes an argument may have: what the system allows a name, with the byte behind it.
+const WORD_ROOM: usize = 4096;
+
 // What came of reading a file: it could not be read, or so many bytes of it stand at the front of the buffer.
-#[derive(Drop)]
+#[derive(Clone, Copy)]
 pub enum Reading {
     Unread,
     Read(usize),
 }
 
-// As much of an open file as the buffer has room for. A folder opens and does not read; and where any read fails, what was read before it is
-// not the file.
-fn read_open(file: i32, out: &mut [u8]) -> Reading
-    ensures { Fits result out.new }
+// As much of what is read as the buffer has room for: `done` counts what stands at its front, also where a read fails.
+pub fn read_counted(reader: &mut impl Read, out: &mut [u8], done: &mut usize) -> io::Result<()>
+    ensures { IsPrefixLen done.new out.new }
 {
-    let mut done = 0;
-    while done < out.len() {
-        let got = libc::read(file, &mut out[done..]);
-        if got < 0 {
-            return Reading::Unread;
-        }
-        let more = io::count(got, &out[done..]);
+    *done = 0;
+    while *done < out.len() {
+        let more = reader.read(&mut out[*done..])?;
         if more == 0 {
-            return Reading::Read(done);
+            return Ok(());
         }
-        done += more;
+        *done += more;
     }
-    Reading::Read(done)
+    Ok(())
 }
 
-// Puts the file of that name at the front of out.
-pub fn read_named(name: &[u8], out: &mut [u8]) -> Reading
+// The same, where a failed read spoils all: so many bytes stand at the buffer's front.
+pub fn read_full(reader: &mut impl Read, out: &mut [u8]) -> io::Result<usize>
+    ensures ok { IfOk result (λ count. IsPrefixLen count out.new) }
+    ensures err { OnErr result (length out.new ≡ length out.old) }
+{
+    let mut done = 0;
+    read_counted(reader, out, &mut done)?;
+    Ok(done)
+}
+
+// A folder opens and does not read; and where any read fails, what was read before it is not the file.
+fn read_path(rt: &impl Files, path: &str, out: &mut [u8]) -> io::Result<usize>
+    ensures ok { IfOk result (λ count. IsPrefixLen count out.new) }
+    ensures err { OnErr result (length out.new ≡ length out.old) }
+{
+    let mut file = fs::open(rt, path)?;
+    read_full(&mut file, out)
+}
+
+// Puts the file of that name at the front of out. Paths are text, so a name that is not UTF-8 cannot be opened.
+pub fn read_named(rt: &impl Files, name: &[u8], out: &mut [u8]) -> Reading
     ensures { Fits result out.new }
 {
-    let file = os::open_read(name);
-    if file < 0 {
+    let Ok(path) = str::from_utf8(name) else {
         return Reading::Unread;
+    };
+    match read_path(rt, path, out) {
+        Ok(count) => Reading::Read(count),
+        Err(_) => Reading::Unread,
     }
-    let reading = read_open(file, out);
-    libc::close(file);
-    reading
 }
 
 // 01, of the listing program alone: "an unreadable file counts as empty".
-pub fn read_or_empty(name: &[u8], out: &mut [u8]) -> usize
+pub fn read_or_empty(rt: &impl Files, name: &[u8], out: &mut [u8]) -> usize
     ensures { IsPrefixLen result out.new }
 {
-    let reading = read_named(name, out);
+    let reading = read_named(rt, name, out);
     match reading {
         Reading::Unread => 0,
         Reading::Read(count) => count,
@@ -72,17 +93,23 @@ pub fn read_or_empty(name: &[u8], out: &mut [u8]) -> usize
 }
 
 // As read_named, for the file that an argument names. One that cannot be read is named at once, and the program ends: a mistyped name must not
-// become a verdict.
-pub fn read_argument(argument: usize, out: &mut [u8]) -> Reading
-    ensures { Fits result out.new }
+// become a verdict. The error is that of the line that names it, which could not be printed; the buffer keeps its length then, and of its bytes
+// nothing is known, as where the file is unread.
+pub fn read_argument(
+    rt: &(impl Env + Files + Print),
+    argument: usize,
+    out: &mut [u8],
+) -> io::Result<Reading>
+    ensures ok { IfOk result (λ reading. Fits reading out.new) }
+    ensures err { OnErr result (length out.new ≡ length out.old) }
 {
-    let mut name = io::buffer();
-    let length = os::arg(argument, &mut name);
-    let reading = read_named(&name[..length], out);
+    let mut name = [0u8; WORD_ROOM];
+    let length = rt.arg(argument, &mut name).unwrap_or(0);
+    let reading = read_named(rt, &name[..length], out);
     if let Reading::Unread = reading {
-        print_unreadable(&name[..length]);
+        print_unreadable(rt, &name[..length])?;
     }
-    reading
+    Ok(reading)
 }
 
 pub fn unread(reading: Reading) -> bool {
@@ -102,83 +129,93 @@ pub fn part_read(reading: Reading, buffer: &[u8]) -> &[u8]
     }
 }
 
-// Makes or overwrites the file that an argument names; false where it cannot be written.
-pub fn write_argument(argument: usize, bytes: &[u8]) -> bool {
-    let mut name = io::buffer();
-    let length = os::arg(argument, &mut name);
-    if os::errno() != 0 {
-        return false;
+fn write_named(rt: &impl Files, name: &[u8], bytes: &[u8]) -> bool {
+    match str::from_utf8(name) {
+        Ok(path) => fs::write(rt, path, bytes).is_ok(),
+        Err(_) => false,
     }
-    let file = os::open_overwrite(&name[..length]);
-    if file < 0 {
-        return false;
-    }
-    let written = io::write_all(file, bytes);
-    let closed = libc::close(file);
-    if closed < 0 {
-        return false;
-    }
-    written
 }
 
-// Writes to standard output. A line that cannot be written has nowhere else to go.
-pub fn print(text: &[u8]) {
-    io::write_all(STDOUT_FILENO, text);
+// Makes or overwrites the file that an argument names; false where it cannot be written.
+pub fn write_argument(rt: &(impl Env + Files), argument: usize, bytes: &[u8]) -> bool {
+    let mut name = [0u8; WORD_ROOM];
+    match rt.arg(argument, &mut name) {
+        Ok(length) => write_named(rt, &name[..length], bytes),
+        Err(_) => false,
+    }
+}
+
+// Writes to standard output.
+pub fn print(rt: &impl Print, text: &[u8]) -> io::Result<()> {
+    rt.write_all(text)
 }
 
 // A word, a space, a number and the line's end.
-pub fn print_count(word: &[u8], count: usize) {
-    print(word);
-    print(b" ");
-    io::print_decimal(STDOUT_FILENO, count as u64);
-    print(b"\n");
+pub fn print_count(rt: &impl Print, word: &[u8], count: usize) -> io::Result<()> {
+    print(rt, word)?;
+    println!(rt; " {count}")
 }
 
 // "`refused` with number, input and record"
-pub fn print_refusal(number: usize, input: usize, place: usize) {
-    print(b"refused ");
-    io::print_decimal(STDOUT_FILENO, number as u64);
-    print(b" ");
-    io::print_decimal(STDOUT_FILENO, input as u64);
-    print(b" ");
-    io::print_decimal(STDOUT_FILENO, place as u64);
-    print(b"\n");
+pub fn print_refusal(rt: &impl Print, number: usize, input: usize, place: usize) -> io::Result<()> {
+    println!(rt; "refused {number} {input} {place}")
 }
 
-fn print_unreadable(name: &[u8]) {
-    print(b"unreadable ");
-    print(name);
-    print(b"\n");
+fn print_unreadable(rt: &impl Print, name: &[u8]) -> io::Result<()> {
+    print(rt, b"unreadable ")?;
+    print(rt, name)?;
+    print(rt, b"\n")
 }
 
 // The file that an argument names is made or overwritten with exactly these bytes, once the answer is known, and the line says how many.
-fn write_part(argument: usize, word: &[u8], bytes: &[u8]) {
-    if write_argument(argument, bytes) {
-        print_count(word, bytes.len());
-        return;
+fn write_part(
+    rt: &(impl Env + Files + Print),
+    argument: usize,
+    word: &[u8],
+    bytes: &[u8],
+) -> io::Result<()> {
+    if write_argument(rt, argument, bytes) {
+        return print_count(rt, word, bytes.len());
     }
-    print(b"unwritable\n");
+    print(rt, b"unwritable\n")
 }
 
 // The same for the first bytes of an answer, which are there.
-pub fn write_used(argument: usize, word: &[u8], answer: &[u8], used: usize) {
+pub fn write_used(
+    rt: &(impl Env + Files + Print),
+    argument: usize,
+    word: &[u8],
+    answer: &[u8],
+    used: usize,
+) -> io::Result<()> {
     if used <= answer.len() {
-        write_part(argument, word, &answer[..used]);
+        return write_part(rt, argument, word, &answer[..used]);
     }
+    Ok(())
+}
+
+// How many words the program was started with, its own name among them.
+pub fn word_count(rt: &impl Env) -> usize {
+    let mut first_byte = [0u8; 1];
+    for i in 0..usize::MAX {
+        if let Err(FillError::NotPresent) = rt.arg(i, &mut first_byte) {
+            return i;
+        }
+    }
+    usize::MAX
 }
 
 // The argument is this word.
-pub fn is_word(argument: usize, word: &[u8]) -> bool {
-    let mut text = io::buffer();
-    let length = os::arg(argument, &mut text);
-    if os::errno() != 0 {
-        return false;
+pub fn is_word(rt: &impl Env, argument: usize, word: &[u8]) -> bool {
+    let mut text = [0u8; WORD_ROOM];
+    match rt.arg(argument, &mut text) {
+        Ok(length) => &text[..length] == word,
+        Err(_) => false,
     }
-    check::same(&text[..length], word)
 }
 
 // A number in decimal digits. One that is larger than any record's number stays at some number that is.
-#[derive(Drop)]
+#[derive(Clone, Copy)]
 pub enum Number {
     Is(usize),
     NotDigits,
@@ -217,11 +254,10 @@ pub fn number_in(text: &[u8]) -> Number {
 }
 
 // The number that an argument is.
-pub fn number_argument(argument: usize) -> Number {
-    let mut text = io::buffer();
-    let length = os::arg(argument, &mut text);
-    if os::errno() != 0 {
-        return Number::NotDigits;
+pub fn number_argument(rt: &impl Env, argument: usize) -> Number {
+    let mut text = [0u8; WORD_ROOM];
+    match rt.arg(argument, &mut text) {
+        Ok(length) => number_in(&text[..length]),
+        Err(_) => Number::NotDigits,
     }
-    number_in(&text[..length])
 }

@@ -1,12 +1,12 @@
 // Numbers and columns on standard output.
 use crate::parts::{less, part};
-use libc::STDOUT_FILENO;
 use program_files::print;
+use std::io;
 
 const TEN: usize = 10;
 
-pub fn print_number(n: usize) {
-    io::print_decimal(STDOUT_FILENO, n as u64);
+pub fn print_number(rt: &impl Print, n: usize) -> io::Result<()> {
+    rt.print(n)
 }
 
 // How many digits a number has.
@@ -23,18 +23,18 @@ pub fn digits(n: usize) -> usize {
 // As many as one call writes.
 const SPACES: usize = 64;
 
-pub fn print_spaces(count: usize) {
+pub fn print_spaces(rt: &impl Print, count: usize) -> io::Result<()> {
     let blank = [b' '; SPACES];
     let mut left = count;
     while SPACES <= left {
-        print(&blank);
+        print(rt, &blank)?;
         left -= SPACES;
     }
-    print(part(&blank, 0, left));
+    print(rt, part(&blank, 0, left))
 }
 
 // A number at the right end of so many places.
-pub fn print_right(n: usize, width: usize) {
-    print_spaces(less(width, digits(n)));
-    print_number(n);
+pub fn print_right(rt: &impl Print, n: usize, width: usize) -> io::Result<()> {
+    print_spaces(rt, less(width, digits(n)))?;
+    print_number(rt, n)
 }

@@ -3,6 +3,7 @@ use crate::parts::{after_record, byte_at, first_record, part, record_kind};
 use program_files::print;
 use read_record::bodies::LABEL_KIND;
 use read_record::limits::{FILLER_ATTRIBUTE, FILLER_ELEMENT, ROOT_LABEL, TEXT};
+use std::io;
 
 // Where number, class and name stand in a label's record: behind its head
 pub const NUMBER_AT: usize = 4;
@@ -45,20 +46,20 @@ pub fn label_record(profile: &[u8], label: usize) -> &[u8] {
     rest
 }
 
-fn print_declared(record: &[u8]) {
+fn print_declared(rt: &impl Print, record: &[u8]) -> io::Result<()> {
     if byte_at(record, CLASS_AT) == ATTRIBUTE_CLASS {
-        print(b"@");
+        print(rt, b"@")?;
     }
-    print(part(record, NAME_AT, record.len()));
+    print(rt, part(record, NAME_AT, record.len()))
 }
 
-pub fn print_label(profile: &[u8], label: usize) {
+pub fn print_label(rt: &impl Print, profile: &[u8], label: usize) -> io::Result<()> {
     match label {
-        TEXT => print(b"#"),
-        ROOT_LABEL => print(b"root"),
-        FILLER_ELEMENT => print(b"any"),
-        FILLER_ATTRIBUTE => print(b"@any"),
-        _ => print_declared(label_record(profile, label)),
+        TEXT => print(rt, b"#"),
+        ROOT_LABEL => print(rt, b"root"),
+        FILLER_ELEMENT => print(rt, b"any"),
+        FILLER_ATTRIBUTE => print(rt, b"@any"),
+        _ => print_declared(rt, label_record(profile, label)),
     }
 }
 

@@ -1,6 +1,5 @@
 // One line's record, put behind the profile that was made so far.
 use crate::words::{NO_BYTE, after_word, byte_in, first_word, has_space};
-use check::same;
 use op_answers::{Filling, PROFILE, Refusal};
 use op_read_line::read_line;
 use program_layout::names::{ATTRIBUTE_CLASS, NAME_AT};
@@ -10,7 +9,7 @@ use read_judged::TOO_LARGE;
 use read_record::bodies::{EDITION_KIND, LABEL_KIND};
 
 // What came of a line: the profile has so many bytes now; it is no line of a profile; or it is refused.
-#[derive(Drop)]
+#[derive(Clone, Copy)]
 pub enum Adding {
     Added(usize),
     NoLine,
@@ -88,7 +87,7 @@ fn add_key(line: &[u8], made: &mut [u8], used: usize, answer: &mut [u8]) -> Addi
 
 // Keys are the lines that begin so.
 fn is_key_line(line: &[u8]) -> bool {
-    same(part(line, 0, 1), b"(")
+    part(line, 0, 1) == b"(".as_slice()
 }
 
 // A line without its end, behind the first `used` bytes of the profile made so far; the answer buffer is for a key's record.
@@ -98,13 +97,13 @@ pub fn add_line(line: &[u8], made: &mut [u8], used: usize, answer: &mut [u8]) ->
     }
     let word = first_word(line);
     let rest = after_word(line);
-    if same(word, b"edition") {
+    if word == b"edition".as_slice() {
         return add_edition(byte_in(rest), made, used);
     }
-    if same(word, b"element") {
+    if word == b"element".as_slice() {
         return add_label(rest, ELEMENT_CLASS, made, used);
     }
-    if same(word, b"attribute") {
+    if word == b"attribute".as_slice() {
         return add_label(rest, ATTRIBUTE_CLASS, made, used);
     }
     Adding::NoLine

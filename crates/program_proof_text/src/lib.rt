@@ -1,4 +1,6 @@
 // A proof that the check accepts, "a numbered line each, the key, the rule by 01's name and what it was taken from". The keys' texts are answers of
 // `op_proof_line`.
+#![tactic(auto)]
+
 pub mod lines;
 pub mod reasons;

@@ -8,50 +8,51 @@ use read_record::limits::{
     SUBNODES, SUBNODES_EPSILON, SUPERKEY, TARGET_PATH,
 };
 use rule_premises::{FIRST_AT, SECOND_AT};
+use std::io;
 
 // The names that 01 gives the rules which have premises among the lines
-fn print_rule(rule: usize) {
+fn print_rule(rt: &impl Print, rule: usize) -> io::Result<()> {
     match rule {
-        PREFIX_EPSILON => print(b"prefix-epsilon"),
-        SUPERKEY => print(b"superkey"),
-        SUBNODES => print(b"subnodes"),
-        CONTEXT_PATH => print(b"context path"),
-        TARGET_PATH => print(b"target path"),
-        CONTEXT_TARGET => print(b"context target"),
-        SUBNODES_EPSILON => print(b"subnodes-epsilon"),
-        _ => print(b"interaction"),
+        PREFIX_EPSILON => print(rt, b"prefix-epsilon"),
+        SUPERKEY => print(rt, b"superkey"),
+        SUBNODES => print(rt, b"subnodes"),
+        CONTEXT_PATH => print(rt, b"context path"),
+        TARGET_PATH => print(rt, b"target path"),
+        CONTEXT_TARGET => print(rt, b"context target"),
+        SUBNODES_EPSILON => print(rt, b"subnodes-epsilon"),
+        _ => print(rt, b"interaction"),
     }
 }
 
 // "Rule 0 cites key number *first premise* of the profile."
-fn print_citation(first: usize) {
-    print(b"key ");
-    print_number(first);
-    print(b" of the profile");
+fn print_citation(rt: &impl Print, first: usize) -> io::Result<()> {
+    print(rt, b"key ")?;
+    print_number(rt, first)?;
+    print(rt, b" of the profile")
 }
 
-fn print_from(rule: usize, first: usize) {
-    print_rule(rule);
-    print(b", from ");
-    print_number(first);
+fn print_from(rt: &impl Print, rule: usize, first: usize) -> io::Result<()> {
+    print_rule(rt, rule)?;
+    print(rt, b", from ")?;
+    print_number(rt, first)
 }
 
-fn print_from_two(first: usize, second: usize) {
-    print_from(INTERACTION, first);
-    print(b" and ");
-    print_number(second);
+fn print_from_two(rt: &impl Print, first: usize, second: usize) -> io::Result<()> {
+    print_from(rt, INTERACTION, first)?;
+    print(rt, b" and ")?;
+    print_number(rt, second)
 }
 
 // "4 proof line: rule (1), first premise (2), second premise (2), a key body"
-pub fn print_reason(record: &[u8]) {
+pub fn print_reason(rt: &impl Print, record: &[u8]) -> io::Result<()> {
     let rule = byte_at(record, HEAD_BYTES);
     let first = word_at(record, HEAD_BYTES + FIRST_AT);
     let second = word_at(record, HEAD_BYTES + SECOND_AT);
     match rule {
-        CITATION => print_citation(first),
-        EPSILON => print(b"epsilon"),
-        INTERACTION => print_from_two(first, second),
-        ONE_ATTRIBUTE => print(b"single attribute"),
-        _ => print_from(rule, first),
+        CITATION => print_citation(rt, first),
+        EPSILON => print(rt, b"epsilon"),
+        INTERACTION => print_from_two(rt, first, second),
+        ONE_ATTRIBUTE => print(rt, b"single attribute"),
+        _ => print_from(rt, rule, first),
     }
 }

@@ -1,5 +1,7 @@
 // Records put together in a lent buffer, from arbitrary bytes: what has no room is left out. Whoever needs to know asks for the room before. What is
 // put together here is judged by the readers of the operations, so that nothing is trusted of it.
+#![tactic(auto)]
+
 use read_record::fields::BYTE;
 use write_bytes::put;
 

@@ -1,4 +1,6 @@
 // Lines of text as files have them (02, request 1): a file's line may end with a newline, which is no part of it.
+#![tactic(auto)]
+
 ghost use Rattle.std.specs.Prelude.{◌≡◌};
 ghost use Rattle.program_text.specs.Bare.{bare_line};
 

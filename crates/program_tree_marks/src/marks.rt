@@ -6,11 +6,12 @@ use crate::paths::key_path;
 use op_answers::Witness;
 use program_files::print;
 use read_record::limits::FILLER_ATTRIBUTE;
+use std::io;
 
 // A question has at most 4 key paths.
 pub const KEY_PATHS: usize = 4;
 
-#[derive(Drop)]
+#[derive(Clone, Copy)]
 pub struct Pair {
     pub x: usize,
     pub y: usize,
@@ -90,36 +91,50 @@ pub fn is_shown(witness: Witness, label: usize, n: usize, all: bool) -> bool {
 }
 
 // One more mark, where it is one; whether there is a mark now.
-fn print_mark(before: bool, is: bool, words: &[u8], path: &[u8]) -> bool {
+fn print_mark(
+    rt: &impl Print,
+    before: bool,
+    is: bool,
+    words: &[u8],
+    path: &[u8],
+) -> io::Result<bool> {
     if !is {
-        return before;
+        return Ok(before);
     }
     if before {
-        print(b", ");
+        print(rt, b", ")?;
     }
-    print(words);
-    print(path);
-    true
+    print(rt, words)?;
+    print(rt, path)?;
+    Ok(true)
 }
 
-fn print_pairs(witness: Witness, n: usize, paths: &[u8], before: bool) {
+fn print_pairs(
+    rt: &impl Print,
+    witness: Witness,
+    n: usize,
+    paths: &[u8],
+    before: bool,
+) -> io::Result<()> {
     let count = path_count(witness);
     let mut told = before;
     let mut j = 0;
     while j < count {
         told = print_mark(
+            rt,
             told,
             in_pair(witness, j, n),
             b"equal by ",
             key_path(paths, j),
-        );
+        )?;
         j += 1;
     }
+    Ok(())
 }
 
-pub fn print_marks(witness: Witness, n: usize, paths: &[u8]) {
-    let context = print_mark(false, n == witness.context, b"context", b"");
-    let first = print_mark(context, n == witness.first, b"first", b"");
-    let second = print_mark(first, n == witness.second, b"second", b"");
-    print_pairs(witness, n, paths, second);
+pub fn print_marks(rt: &impl Print, witness: Witness, n: usize, paths: &[u8]) -> io::Result<()> {
+    let context = print_mark(rt, false, n == witness.context, b"context", b"")?;
+    let first = print_mark(rt, context, n == witness.first, b"first", b"")?;
+    let second = print_mark(rt, first, n == witness.second, b"second", b"")?;
+    print_pairs(rt, witness, n, paths, second)
 }

@@ -7,6 +7,7 @@ use program_layout::names::{has_value, print_label};
 use program_layout::parts::{byte_at, part, record_kind, word_at};
 use read_record::bodies::WIDE_KIND;
 use read_record::limits::{LABEL_AT, NODE_BYTES, PARENT_AT, TREE_NODES, VALUE_AT, WIDE_BYTES};
+use std::io;
 
 pub fn at_most(n: usize, bound: usize) -> usize
     ensures { result ≤ bound }
@@ -59,12 +60,13 @@ pub fn value_of(record: &[u8]) -> usize {
 }
 
 // Label and value: attributes and text have one.
-pub fn print_text(profile: &[u8], record: &[u8]) {
-    print_label(profile, label_of(record));
+pub fn print_text(rt: &impl Print, profile: &[u8], record: &[u8]) -> io::Result<()> {
+    print_label(rt, profile, label_of(record))?;
     if has_value(profile, label_of(record)) {
-        print(b" = ");
-        print_number(value_of(record));
+        print(rt, b" = ")?;
+        print_number(rt, value_of(record))?;
     }
+    Ok(())
 }
 
 fn one_below(depths: &[usize; TREE_NODES], parent: usize) -> usize {

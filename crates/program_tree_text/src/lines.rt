@@ -12,6 +12,7 @@ use program_tree_marks::nodes::{
     at_most, depths_of, label_of, node, node_count, print_text, value_of,
 };
 use read_record::limits::TREE_NODES;
+use std::io;
 
 // The places of a node's number, and of a step below the root
 const NUMBER_PLACES: usize = 4;
@@ -79,24 +80,44 @@ fn widest(
 }
 
 // Number, indent, label and value.
-fn print_node(profile: &[u8], record: &[u8], n: usize, depth: usize) {
-    print_right(n, NUMBER_PLACES);
-    print(b" ");
-    print_spaces(indent(depth));
-    print_text(profile, record);
+fn print_node(
+    rt: &impl Print,
+    profile: &[u8],
+    record: &[u8],
+    n: usize,
+    depth: usize,
+) -> io::Result<()> {
+    print_right(rt, n, NUMBER_PLACES)?;
+    print(rt, b" ")?;
+    print_spaces(rt, indent(depth))?;
+    print_text(rt, profile, record)
 }
 
 // What stands behind a text of so many places, where the longest has so many.
-fn print_behind(witness: Witness, n: usize, paths: &[u8], width: usize, longest: usize) {
+fn print_behind(
+    rt: &impl Print,
+    witness: Witness,
+    n: usize,
+    paths: &[u8],
+    width: usize,
+    longest: usize,
+) -> io::Result<()> {
     if has_mark(witness, n) {
-        print_spaces(less(longest, width));
-        print_spaces(GAP);
-        print_marks(witness, n, paths);
+        print_spaces(rt, less(longest, width))?;
+        print_spaces(rt, GAP)?;
+        print_marks(rt, witness, n, paths)?;
     }
-    print(b"\n");
+    print(rt, b"\n")
 }
 
-pub fn print_lines(profile: &[u8], tree: &[u8], all: bool, witness: Witness, paths: &[u8]) {
+pub fn print_lines(
+    rt: &impl Print,
+    profile: &[u8],
+    tree: &[u8],
+    all: bool,
+    witness: Witness,
+    paths: &[u8],
+) -> io::Result<()> {
     let depths = depths_of(tree);
     let longest = widest(profile, tree, all, witness, &depths);
     let order = by_branch(tree);
@@ -107,15 +128,17 @@ pub fn print_lines(profile: &[u8], tree: &[u8], all: bool, witness: Witness, pat
         let record = node(tree, n);
         if is_shown(witness, label_of(record), n, all) {
             let depth = depths[n];
-            print_node(profile, record, n, depth);
+            print_node(rt, profile, record, n, depth)?;
             print_behind(
+                rt,
                 witness,
                 n,
                 paths,
                 text_width(profile, record, depth),
                 longest,
-            );
+            )?;
         }
         i += 1;
     }
+    Ok(())
 }

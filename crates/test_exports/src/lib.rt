@@ -1,5 +1,7 @@
 // The public operations under C names, for measure/ alone: a Rust program links the static library of this crate beside the second
 // implementation. Not part of the product. A slice crosses as a pointer and a length; an answer is written as four words.
+#![tactic(auto)]
+
 mod words;
 
 ghost use Rattle.test_exports.specs.Told.{ToldRewriting, ToldInclusion, ToldKeeping, ToldProof, ToldCounterexample, ToldListing, ToldDeciding, ToldReducing, ToldTrimming};

@@ -2,7 +2,9 @@
 // the three inputs, one behind the other.
 ghost use Rattle.std.specs.Prelude.{◌+◌, ◌≤◌, ◌<◌};
 
-use libc::STDIN_FILENO;
+use program_files::read_full;
+use std::io;
+use std::io::Read;
 
 // Where each number of the head stands; the operation stands at 0.
 const NUMBER: usize = 1;
@@ -18,7 +20,7 @@ const THIRD_LENGTH: usize = 17;
 const HEAD_BYTES: usize = 21;
 
 // A case without its inputs' bytes: the first input begins at 0, and `end` is where the third ends.
-#[derive(Drop)]
+#[derive(Clone, Copy)]
 pub struct Case {
     pub operation: u8,
     pub number: usize,
@@ -29,7 +31,7 @@ pub struct Case {
 }
 
 // The next case, or nothing more.
-#[derive(Drop)]
+#[derive(Clone, Copy)]
 pub enum Next {
     Is(Case),
     Nothing,
@@ -65,21 +67,21 @@ fn case_of(head: &[u8; HEAD_BYTES]) -> Case {
     }
 }
 
-// Reads the head of the next case from standard input.
-pub fn read_case() -> Next {
+// Reads the head of the next case.
+pub fn read_case(reader: &mut impl Read) -> io::Result<Next> {
     let mut head = [0u8; HEAD_BYTES];
-    if io::read_full(STDIN_FILENO, &mut head) < HEAD_BYTES {
-        return Next::Nothing;
+    if read_full(reader, &mut head)? < HEAD_BYTES {
+        return Ok(Next::Nothing);
     }
-    Next::Is(case_of(&head))
+    Ok(Next::Is(case_of(&head)))
 }
 
 // Puts a case's inputs, which are so many bytes, at the start of the space. False where they do not fit, or the stream breaks off.
-pub fn read_inputs(end: usize, space: &mut [u8]) -> bool {
+pub fn read_inputs(reader: &mut impl Read, end: usize, space: &mut [u8]) -> io::Result<bool> {
     if end > space.len() {
-        return false;
+        return Ok(false);
     }
-    io::read_full(STDIN_FILENO, &mut space[..end]) == end
+    Ok(read_full(reader, &mut space[..end])? == end)
 }
 
 // One input: the bytes of the space from a place up to another. Both lie in it, since the inputs were read.

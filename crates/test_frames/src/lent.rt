@@ -4,6 +4,7 @@ ghost use Rattle.std.specs.Prelude.{◌≤◌, length};
 
 use op_answers::Refusal;
 use program_files::{print, print_count, print_refusal};
+use std::io;
 
 // Byte i of the pattern is i % PERIOD: a prime, so that no run of a power of two bytes repeats it.
 const PERIOD: usize = 251;
@@ -60,28 +61,30 @@ fn is_unchanged(answer: &[u8], from: usize) -> bool
     begins_unchanged(answer, from) && repeats(answer, from)
 }
 
-fn changed(answer: &mut [u8]) {
-    print(b"changed\n");
+fn changed(rt: &impl Print, answer: &mut [u8]) -> io::Result<()> {
+    print(rt, b"changed\n")?;
     fill(answer);
+    Ok(())
 }
 
 // The line of a refusal, which changes no byte.
-pub fn refused(refusal: Refusal, answer: &mut [u8]) {
+pub fn refused(rt: &impl Print, refusal: Refusal, answer: &mut [u8]) -> io::Result<()> {
     if !is_unchanged(answer, 0) {
-        return changed(answer);
+        return changed(rt, answer);
     }
-    print_refusal(refusal.number, refusal.input, refusal.place);
+    print_refusal(rt, refusal.number, refusal.input, refusal.place)
 }
 
 // The line with the bytes used, and these bytes. Behind them nothing is changed; they get the pattern again.
-pub fn filled(word: &[u8], used: usize, answer: &mut [u8]) {
+pub fn filled(rt: &impl Print, word: &[u8], used: usize, answer: &mut [u8]) -> io::Result<()> {
     if used > answer.len() {
-        return changed(answer);
+        return changed(rt, answer);
     }
     if !is_unchanged(answer, used) {
-        return changed(answer);
+        return changed(rt, answer);
     }
-    print_count(word, used);
-    print(&answer[..used]);
+    print_count(rt, word, used)?;
+    print(rt, &answer[..used])?;
     fill(&mut answer[..used]);
+    Ok(())
 }

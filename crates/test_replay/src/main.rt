@@ -3,6 +3,8 @@
 //
 // An answer is a line as the programs print it; where the line ends in a number of bytes, they follow. `not here` stands for an operation or a room
 // that this program does not have, `changed` for an operation that changed a byte of the answer buffer behind those it used.
+#![tactic(auto)]
+
 use op_answers::{Checking, Deciding, Filling, Inclusion, Listing, Rewriting};
 use op_campaign::{count_segment, report};
 use op_list::list_block;
@@ -13,6 +15,8 @@ use op_trim::trim;
 use program_files::{print, print_count, print_refusal};
 use program_lean::print_dropped;
 use program_witness::{print_countering, print_keeping};
+use std::io;
+use std::io::Read;
 use test_frames::cases::{Case, Next, input, read_case, read_inputs};
 use test_frames::lent::{fill, filled, refused};
 use test_frames::segments::{SEGMENT_HEAD, UNREAD, segment_end, segment_length};
@@ -55,80 +59,86 @@ const INPUTS_ROOM: usize = 393216;
 // One byte more than an operation that fills an answer buffer asks, so that a larger buffer is lent too.
 const ANSWER_ROOM: usize = 65537;
 
-fn not_here() {
-    print(b"not here\n");
+fn not_here(rt: &impl Print) -> io::Result<()> {
+    print(rt, b"not here\n")
 }
 
-fn rewrite(profile: &[u8], answer: &mut [u8]) {
+fn rewrite(rt: &impl Print, profile: &[u8], answer: &mut [u8]) -> io::Result<()> {
     let rewritten = op_profile::profiles::rewrite(profile, answer);
     match rewritten {
-        Rewriting::Refused(refusal) => refused(refusal, answer),
-        Rewriting::Rewritten(used) => filled(b"rewritten", used, answer),
+        Rewriting::Refused(refusal) => refused(rt, refusal, answer),
+        Rewriting::Rewritten(used) => filled(rt, b"rewritten", used, answer),
     }
 }
 
-fn body(profile: &[u8], n: usize) {
+fn body(rt: &impl Print, profile: &[u8], n: usize) -> io::Result<()> {
     let bytes = op_profile::profiles::body(profile, n);
-    print_count(b"body", bytes.len());
-    print(bytes);
+    print_count(rt, b"body", bytes.len())?;
+    print(rt, bytes)
 }
 
-fn include(profile: &[u8], path: &[u8], other: &[u8]) {
+fn include(rt: &impl Print, profile: &[u8], path: &[u8], other: &[u8]) -> io::Result<()> {
     let included = op_profile::inclusions::include(profile, path, other);
     match included {
-        Inclusion::Included => print(b"included\n"),
-        Inclusion::NotIncluded => print(b"not included\n"),
-        Inclusion::Refused(r) => print_refusal(r.number, r.input, r.place),
+        Inclusion::Included => print(rt, b"included\n"),
+        Inclusion::NotIncluded => print(rt, b"not included\n"),
+        Inclusion::Refused(r) => print_refusal(rt, r.number, r.input, r.place),
     }
 }
 
-fn keep(profile: &[u8], question: &[u8], tree: &[u8]) {
-    print_keeping(op_tree::keep(profile, question, tree));
+fn keep(rt: &impl Print, profile: &[u8], question: &[u8], tree: &[u8]) -> io::Result<()> {
+    print_keeping(rt, op_tree::keep(profile, question, tree))
 }
 
-fn checked(checking: Checking) {
+fn checked(rt: &impl Print, checking: Checking) -> io::Result<()> {
     match checking {
-        Checking::Accepted => print(b"accepted\n"),
-        Checking::Refused(r) => print_refusal(r.number, r.input, r.place),
+        Checking::Accepted => print(rt, b"accepted\n"),
+        Checking::Refused(r) => print_refusal(rt, r.number, r.input, r.place),
     }
 }
 
-fn list(profile: &[u8], tree: &[u8], block: usize, answer: &mut [u8]) {
+fn list(
+    rt: &impl Print,
+    profile: &[u8],
+    tree: &[u8],
+    block: usize,
+    answer: &mut [u8],
+) -> io::Result<()> {
     let listing = list_block(profile, tree, block, answer);
     match listing {
-        Listing::Refused(refusal) => refused(refusal, answer),
-        Listing::Listed(used) => filled(b"listed", used, answer),
+        Listing::Refused(refusal) => refused(rt, refusal, answer),
+        Listing::Listed(used) => filled(rt, b"listed", used, answer),
     }
 }
 
-fn decide(profile: &[u8], question: &[u8], answer: &mut [u8]) {
+fn decide(rt: &impl Print, profile: &[u8], question: &[u8], answer: &mut [u8]) -> io::Result<()> {
     let decided = op_decide::decide(profile, question, answer);
     match decided {
-        Deciding::Refused(refusal) => refused(refusal, answer),
-        Deciding::Implied(used) => filled(b"implied", used, answer),
-        Deciding::NotImplied(used) => filled(b"not implied", used, answer),
+        Deciding::Refused(refusal) => refused(rt, refusal, answer),
+        Deciding::Implied(used) => filled(rt, b"implied", used, answer),
+        Deciding::NotImplied(used) => filled(rt, b"not implied", used, answer),
     }
 }
 
 // The line of an operation of 02 that fills an answer buffer, by its word.
-fn filling(word: &[u8], answered: Filling, answer: &mut [u8]) {
+fn filling(rt: &impl Print, word: &[u8], answered: Filling, answer: &mut [u8]) -> io::Result<()> {
     match answered {
-        Filling::Refused(refusal) => refused(refusal, answer),
-        Filling::Filled(used) => filled(word, used, answer),
+        Filling::Refused(refusal) => refused(rt, refusal, answer),
+        Filling::Filled(used) => filled(rt, word, used, answer),
     }
 }
 
 // The numbers of the dropped keys stand before the number of bytes.
-fn reduce(profile: &[u8], answer: &mut [u8]) {
+fn reduce(rt: &impl Print, profile: &[u8], answer: &mut [u8]) -> io::Result<()> {
     let lean = op_lean::reduce(profile, answer);
     let answered = lean.answer;
     let dropped = lean.dropped;
     match answered {
-        Filling::Refused(refusal) => refused(refusal, answer),
+        Filling::Refused(refusal) => refused(rt, refusal, answer),
         Filling::Filled(used) => {
-            print(b"reduced ");
-            print_dropped(dropped, lean.count);
-            filled(b"", used, answer);
+            print(rt, b"reduced ")?;
+            print_dropped(rt, dropped, lean.count)?;
+            filled(rt, b"", used, answer)
         }
     }
 }
@@ -155,118 +165,152 @@ fn count_all(profile: &[u8], framed: &[u8]) -> Tally {
 }
 
 // The operations of 02 that fill an answer buffer: one `if` for each.
-fn answer_request(case: Case, first: &[u8], second: &[u8], third: &[u8], answer: &mut [u8]) {
+fn answer_request(
+    rt: &impl Print,
+    case: Case,
+    first: &[u8],
+    second: &[u8],
+    third: &[u8],
+    answer: &mut [u8],
+) -> io::Result<()> {
     if case.operation == READ_LINE {
         let read = op_read_line::read_line(first, second, answer);
-        return filling(b"key", read, answer);
+        return filling(rt, b"key", read, answer);
     }
     if case.operation == WRITE_LINE {
         let written = op_write_line::write_line(first, second, answer);
-        return filling(b"text", written, answer);
+        return filling(rt, b"text", written, answer);
     }
     if case.operation == REDUCE {
-        return reduce(first, answer);
+        return reduce(rt, first, answer);
     }
     if case.operation == DROPPED_PROOF {
         let proved = op_lean::prove_dropped(first, case.number, answer);
-        return filling(b"proof", proved, answer);
+        return filling(rt, b"proof", proved, answer);
     }
     if case.operation == TRIM {
         let trimmed = trim(first, second, third, answer);
-        return filling(b"trimmed", trimmed, answer);
+        return filling(rt, b"trimmed", trimmed, answer);
     }
     if case.operation == SALVAGE {
         let salvaged = op_salvage::salvage::salvage(first, third, answer);
-        return filling(b"salvaged", salvaged, answer);
+        return filling(rt, b"salvaged", salvaged, answer);
     }
     if case.operation == SALVAGE_LISTING {
         let listed = op_salvage_list::salvage_block(first, third, case.number, answer);
-        return filling(b"listed", listed, answer);
+        return filling(rt, b"listed", listed, answer);
     }
     if case.operation == CAMPAIGN {
         let reported = report(second, first, count_all(first, third), answer);
-        return filling(b"reported", reported, answer);
+        return filling(rt, b"reported", reported, answer);
     }
-    not_here();
+    not_here(rt)
 }
 
 // Those of 01.
-fn answer_filling(case: Case, first: &[u8], second: &[u8], third: &[u8], answer: &mut [u8]) {
+fn answer_filling(
+    rt: &impl Print,
+    case: Case,
+    first: &[u8],
+    second: &[u8],
+    third: &[u8],
+    answer: &mut [u8],
+) -> io::Result<()> {
     if case.operation == REWRITE {
-        return rewrite(first, answer);
+        return rewrite(rt, first, answer);
     }
     if case.operation == DECIDE {
-        return decide(first, second, answer);
+        return decide(rt, first, second, answer);
     }
     if case.operation == LIST {
-        return list(first, third, case.number, answer);
+        return list(rt, first, third, case.number, answer);
     }
-    answer_request(case, first, second, third, answer);
+    answer_request(rt, case, first, second, third, answer)
 }
 
 // One `if` for each operation that fills none.
-fn answer_inputs(case: Case, first: &[u8], second: &[u8], third: &[u8], answer: &mut [u8]) {
+fn answer_inputs(
+    rt: &impl Print,
+    case: Case,
+    first: &[u8],
+    second: &[u8],
+    third: &[u8],
+    answer: &mut [u8],
+) -> io::Result<()> {
     if case.operation == BODY {
-        return body(first, case.number);
+        return body(rt, first, case.number);
     }
     if case.operation == INCLUDE {
-        return include(first, second, third);
+        return include(rt, first, second, third);
     }
     if case.operation == KEEP {
-        return keep(first, second, third);
+        return keep(rt, first, second, third);
     }
     if case.operation == CHECK_PROOF {
-        return checked(check_proof(first, second, third));
+        return checked(rt, check_proof(first, second, third));
     }
     if case.operation == CHECK_TREE {
-        return print_countering(check_counterexample(first, second, third));
+        return print_countering(rt, check_counterexample(first, second, third));
     }
-    answer_filling(case, first, second, third, answer);
+    answer_filling(rt, case, first, second, third, answer)
 }
 
 // Lends as much of the answer buffer as the case says.
-fn answer_case(case: Case, space: &[u8], answer: &mut [u8]) {
+fn answer_case(rt: &impl Print, case: Case, space: &[u8], answer: &mut [u8]) -> io::Result<()> {
     let room = case.room;
     if room > answer.len() {
-        return not_here();
+        return not_here(rt);
     }
     let second = input(space, case.second, case.third);
     let third = input(space, case.third, case.end);
     answer_inputs(
+        rt,
         case,
         input(space, 0, case.second),
         second,
         third,
         &mut answer[..room],
-    );
+    )
 }
 
 // Answers the next case, and says whether there was one.
-fn answer_next(space: &mut [u8], answer: &mut [u8]) -> bool {
-    let next = read_case();
+fn answer_next(
+    rt: &impl Print,
+    reader: &mut impl Read,
+    space: &mut [u8],
+    answer: &mut [u8],
+) -> io::Result<bool> {
+    let next = read_case(reader)?;
     match next {
-        Next::Nothing => false,
+        Next::Nothing => Ok(false),
         Next::Is(case) => {
-            let is_read = read_inputs(case.end, space);
+            let is_read = read_inputs(reader, case.end, space)?;
             if is_read {
-                answer_case(case, space, answer);
+                answer_case(rt, case, space, answer)?;
             }
-            is_read
+            Ok(is_read)
         }
     }
 }
 
-// A proved loop has to end, and nothing says that the input does. So the loop counts its turns down, from a number that no run uses up.
-fn answer_all(space: &mut [u8], answer: &mut [u8]) {
-    let mut turns = u64::MAX;
-    while turns > 0 && answer_next(space, answer) {
-        turns -= 1;
+// A proved loop has to end, and nothing says that the input does. So the loop counts its turns, to a number that no run uses up.
+fn answer_all(
+    rt: &impl Print,
+    reader: &mut impl Read,
+    space: &mut [u8],
+    answer: &mut [u8],
+) -> io::Result<()> {
+    for _ in 0..u64::MAX {
+        if !answer_next(rt, reader, space, answer)? {
+            return Ok(());
+        }
     }
+    Ok(())
 }
 
-fn main() {
+fn main(rt: HostRuntime) -> io::Result<()> {
     let mut space = [0u8; INPUTS_ROOM];
     let mut answer = [0u8; ANSWER_ROOM];
     fill(&mut answer);
-    answer_all(&mut space, &mut answer);
+    answer_all(&rt, &mut rt.reader(), &mut space, &mut answer)
 }

@@ -1,0 +1,8 @@
+use lib.ListN.{length}
+use Rattle.program_layout.proofs.names.label_record.Given as goal
+
+abbrev pub invariant-loop-rest : goal.invariant-loop-rest
+invariant-loop-rest l = Unit {0}
+
+abbrev pub decreases-loop-rest : goal.decreases-loop-rest
+decreases-loop-rest l = length l.rest
