@@ -1,7 +1,7 @@
 #!/bin/sh
 # measure/campaign.sh [COUNT]: the program `campaign` over 200 segments (or COUNT) of 4,096 nodes with 64 keys, on one processor and as four
 # lists side by side, and xmllint with 64 `xs:unique` over the same segments, on demand. Milliseconds by the clock on the wall, the least of
-# three runs. All that is built or written lies in target/measure/campaign. The programs have to be built: rt check campaign.
+# three runs. All that is built or written lies in target/measure/campaign. The programs have to be built: ./culvertecho builds them.
 set -eu
 root=$(CDPATH= cd -- "$(dirname -- "$0")/.." && pwd)
 cd "$root"

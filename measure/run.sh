@@ -47,17 +47,17 @@ prepare() {
 
 # The stack of the three calls for C, by the program that tests/calls.sh holds to the stream: on standard error, since its answers go nowhere.
 calls() {
-    rt staticlib tap >"$work/staticlib.log" 2>&1 || fail "rt staticlib tap: $work/staticlib.log"
-    "$cc" -std=c99 -O2 -Iinclude -Itests/calls -static -o "$work/calls" tests/calls/stream.c -Ltarget/staticlib -ltap ||
+    static_library tap
+    "$cc" -std=c99 -O2 -Iinclude -Itests/calls -static -o "$work/calls" tests/calls/stream.c -L"${library%/*}" -ltap ||
         fail "tests/calls/stream.c does not compile"
     measure frames >"$work/frames"
     $emulator "$work/calls" <"$work/frames" 2>&1 >"$work/called" || fail "a call takes more stack than culvertecho.h says"
 }
 
 build() {
-    rt staticlib test_exports >"$work/staticlib.log" 2>&1 || fail "rt staticlib test_exports: $work/staticlib.log"
+    static_library test_exports
     # shellcheck disable=SC2086
-    "$rustc" --edition 2021 -C opt-level=3 $flags -L target/staticlib -l static=test_exports -o "$work/measure" measure/main.rs ||
+    "$rustc" --edition 2021 -C opt-level=3 $flags -L "${library%/*}" -l static=test_exports -o "$work/measure" measure/main.rs ||
         fail "measure/main.rs does not compile"
 }
 

@@ -23,8 +23,7 @@ prepare_c
 prepare_rust
 
 # 1. The library: what it asks of the firmware, and that it gives the names of the header and no others.
-rt staticlib tap >"$work/staticlib.log" 2>&1 || fail "rt staticlib tap: $work/staticlib.log"
-library=target/staticlib/libtap.a
+static_library tap
 asked=$("$nm" -u "$library" | sed -n 's/^ *U //p' | sort -u | tr '\n' ' ')
 [ "$asked" = "memcpy memmove memset " ] || fail "$library asks for $asked"
 given=$("$nm" -g --defined-only "$library" | sed -n 's/^[0-9a-f]* T //p' | sort | tr '\n' ' ')
@@ -34,7 +33,7 @@ named=$(sed -n 's/^size_t \(culvertecho_[a-z_]*\)(.*/\1/p' include/culvertecho.h
 
 # build NAME SOURCE: linked statically, so that the emulator needs no C library of its own
 build() {
-    "$cc" -std=c99 -O2 -Wall -Wextra -Werror -Iinclude -Itests/calls -static -o "$work/$1" "$2" -Ltarget/staticlib -ltap ||
+    "$cc" -std=c99 -O2 -Wall -Wextra -Werror -Iinclude -Itests/calls -static -o "$work/$1" "$2" -L"${library%/*}" -ltap ||
         fail "$2 does not compile"
 }
 

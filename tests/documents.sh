@@ -48,10 +48,17 @@ there() {
             defined "${1#*.}" crates/*/specs/"${1%%.*}".antt
             ;;
         [a-z]*[a-z]-[a-z]* | [a-z]*→* | [a-z]*\?) defined "$1" "$work/specs" ;;
+        # a definition, or else a crate, an edit, a function of a crate, of the second implementation or of the front, a call from C
+        [a-z]*_[a-z]*) defined "$1" "$work/specs" || grep -qw -- "$1" "$work/code" ;;
     esac
 }
 
 find crates -path '*/specs/*.antt' -exec cat {} + >"$work/specs"
+{
+    find crates -path '*/must-fail/*.edit'
+    find crates tests measure -name '*.r[st]' -exec cat {} +
+    cat crates.txt include/culvertecho.h culvertecho
+} >"$work/code"
 for page in docs/PROMISES.md docs/ARGUMENT.md docs/MAP.md docs/DECISIONS.md; do
     sed '/^```/,/^```/d' "$page" | grep -o '`[^`]*`' | tr -d '`' | sort -u >"$work/names"
     while read -r name; do
@@ -60,12 +67,12 @@ for page in docs/PROMISES.md docs/ARGUMENT.md docs/MAP.md docs/DECISIONS.md; do
     done <"$work/names"
 done
 [ "$tried" -gt 300 ] || wrong "only $tried names were found"
-if there "theory_paths.Spelling.no-such-theorem" || there "checks/no_such_edit" || there "op_profile::no_such_function"; then
+if there "theory_paths.Spelling.no-such-theorem" || there "checks/no_such_edit" || there "op_profile::no_such_function" || there no_such_name; then
     wrong "a name that is not there is not seen"
 fi
 
 # every crate is on the map
-sed -n 's/^\([a-z_0-9]*\):.*/\1/p' crates.txt >"$work/crates"
+sed -n 's/^\([a-z_0-9]*\)[^:#]*:.*/\1/p' crates.txt >"$work/crates"
 while read -r crate; do
     grep -q "\`$crate\`" docs/MAP.md || wrong "docs/MAP.md has no crate $crate"
 done <"$work/crates"

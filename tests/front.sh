@@ -39,15 +39,14 @@ grep -q '^m2   implied      30 ' "$work/table" || fail "row m in edition 2 is no
 grep -qF ' accepted  (port, (frame, {@seq})) | (., (port.frame, {@seq}))' "$work/table" || fail "row b has no typed keys"
 # a wrong expectation is seen: the same examples with row a turned round
 cp -R "$root/examples" "$front" "$work"
-mkdir "$work/target"
-ln -s "$root/target/bin" "$work/target/bin"
+ln -s "$root/crates" "$work/crates"
 sed 's/^a	I/a	N/' "$examples/rows.txt" >"$work/examples/rows.txt"
 if "$work/culvertecho" >"$work/table"; then fail "a wrong row is not seen"; fi
 
 # in a folder with spaces, and through links to it, one of them relative to a link
-mkdir -p "$work/a folder with spaces/target" "$work/links"
+mkdir -p "$work/a folder with spaces" "$work/links"
 cp -R "$root/examples" "$front" "$work/a folder with spaces"
-ln -s "$root/target/bin" "$work/a folder with spaces/target/bin"
+ln -s "$root/crates" "$work/a folder with spaces/crates"
 ln -s "$work/a folder with spaces/culvertecho" "$work/links/a link"
 ln -s "a link" "$work/links/linked"
 for started in "$work/a folder with spaces/culvertecho" "$work/links/a link" "$work/links/linked"; do

@@ -1,13 +1,13 @@
 #!/bin/sh
-# run_program.sh NAME ARGS..: runs target/bin/NAME, from any folder. Rattle programs are x86-64; on another machine they run under the
+# run_program.sh NAME ARGS..: runs crates/NAME/out/NAME, from any folder. Rattle programs are x86-64; on another machine they run under the
 # emulator that lies in the kit.
 set -eu
 root=$(CDPATH= cd -- "$(dirname -- "$0")/.." && pwd)
 name=$1
 shift
-program=$root/target/bin/$name
+program=$root/crates/$name/out/$name
 if [ ! -f "$program" ]; then
-    echo "run_program.sh: $program is not there: rt ci builds it" >&2
+    echo "run_program.sh: $program is not there: rt ci builds it, and so does rt run in crates/$name" >&2
     exit 127
 fi
 machine=$(uname -m)

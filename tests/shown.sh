@@ -2,7 +2,7 @@
 # shown.sh [SEED [PROGRAMS]]: holds the programs `show`, `make` and `advise` to the second implementation, every byte that they print and
 # write, on files of target/tests/shown; `decide`, `trim` and `text` help. A difference fails it, is printed, and its files are kept in
 # target/tests/shown/difference. Each outcome has its minimum (tests/shown.rs). Wrong lines of the reference must be seen: a comparison
-# that cannot fail shows nothing. PROGRAMS is another folder of the programs, or target/tests/shown.run, which stands in for them.
+# that cannot fail shows nothing. PROGRAMS is a folder of the programs, or target/tests/shown.run, which stands in for them.
 set -eu
 root=$(CDPATH='' cd -- "$(dirname -- "$0")/.." && pwd)
 cd "$root"
@@ -19,10 +19,17 @@ fail() {
 prepare_rust
 "$rustc" -O --edition 2021 -o "$work/shown.run" tests/shown.rs || fail "tests/shown.rs does not compile"
 
-# There are many short processes, so the programs are run without a script between where they can be.
-programs=tests/run_program.sh
-[ "$(uname -m)" != x86_64 ] || programs=target/bin
-programs=${2:-$programs}
+# There are many short processes, so the programs are run without a script between where they can be: copies of them, in one folder. (A link
+# would do, but rt ci refuses a repository with a link in any of its folders.)
+programs=${2:-tests/run_program.sh}
+if [ $# -lt 2 ] && [ "$(uname -m)" = x86_64 ]; then
+    programs=$work/programs
+    rm -rf "$programs"
+    mkdir "$programs"
+    for name in show make advise decide trim text; do
+        cp "crates/$name/out/$name" "$programs" || fail "no program $name: rt ci builds it"
+    done
+fi
 
 start=$(date +%s)
 "$work/shown.run" run "$programs" "$work/shown" "$seed" >"$work/shown.said" || {

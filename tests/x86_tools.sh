@@ -28,6 +28,15 @@ prepare_c() {
     cc=x86_64-linux-gnu-gcc nm=x86_64-linux-gnu-nm emulator=qemu-x86_64
 }
 
+# static_library NAME: has rt build the static library of a crate, and sets library. rt ci proves the crate and leaves no archive. The default
+# processor of rt asks for more than every x86-64 has, and a caller of a library is not told so; --cpu keeps to what all have.
+static_library() {
+    library=crates/$1/out/lib$1.a
+    rm -f "$library"
+    (cd "crates/$1" && rt lib --cpu=x86-64) >"$work/lib$1.log" 2>&1 || fail "rt lib in crates/$1: $work/lib$1.log"
+    [ -f "$library" ] || fail "rt lib in crates/$1 left no $library: $work/lib$1.log"
+}
+
 # Sets rustc, which makes programs for this machine.
 prepare_rust() {
     command -v rustc >/dev/null 2>&1 || install rustc gcc libc6-dev
