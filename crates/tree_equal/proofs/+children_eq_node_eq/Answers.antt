@@ -57,7 +57,7 @@ pub node_eq-family_of-requires-then-from-y : goal.node_eq-family_of-requires-the
 node_eq-family_of-requires-then-from-y t c = let f = c.requires.linked_tree.0.tree.few in let h = c.requires.x_bound.1 in omega arith
 
 pub node_eq-returns-then-from-y : goal.node_eq-returns-then-from-y
-node_eq-returns-then-from-y t c = (families_tell _ _ _ _ _ _ _ _ c.requires.linked_tree.1 c.if-from-x.true c.requires.x_bound.0 c.if-from-y.true c.requires.x_bound.1 c.family_of.ensures.0 c.family_of-then-from-y.ensures.0, c.requires.x_bound.4)
+node_eq-returns-then-from-y t c = (families_tell _ _ _ _ _ _ _ _ c.requires.linked_tree.1 c.if-from-x.true c.requires.x_bound.0 (omega arith) c.requires.x_bound.1 c.family_of.ensures.0 c.family_of-then-from-y.ensures.0, c.requires.x_bound.4)
 
 pub node_eq-label-label_x-requires : goal.node_eq-label-label_x-requires
 node_eq-label-label_x-requires t c = c.requires.x_bound.0

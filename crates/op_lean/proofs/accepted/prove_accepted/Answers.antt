@@ -8,8 +8,8 @@ use Rattle.theory_records.specs.Bytes.{bytes_from}
 use Rattle.op_lean.specs.Leaned.{profile_room, accepted_keyed, accepted_cut, accepted_count}
 use Rattle.op_lean.specs.Returns.{prove_none, proof_within, proof_given, proof_told}
 use borrow.Author.Rules.{rules}
-use mathlib.Core.Path.{ap}
-use mathlib.Core.Bool.{not}
+use mathlib.Core.Path.{◌≡◌, ap}
+use mathlib.Core.Bool.{not, true}
 use Rattle.op_lean.proofs.accepted.prove_accepted.Goals as goal
 
 pub reduction-stays-requires : goal.reduction-stays-requires
@@ -28,10 +28,10 @@ pub slice_bounds-decide_accepted-end : goal.slice_bounds-decide_accepted-end
 slice_bounds-decide_accepted-end c = sym (part_length c.put_lean-chosen.ensures.wrote)
 
 pub slice_bounds-decide_accepted-end-2 : goal.slice_bounds-decide_accepted-end-2
-slice_bounds-decide_accepted-end-2 c = sym (length-take-le _ _ (proof_within c.requires.0 c.args.answer.now c.requires.1 c.record_at-part.ensures c.reduction-stays.ensures _ c.is_dropped.ensures (ap not c.if-not-is_dropped.false) c.record_at-rest.ensures c.front_length-size.ensures))
+slice_bounds-decide_accepted-end-2 c = sym (length-take-le _ _ (proof_within c.requires.0 c.args.answer.now c.requires.1 c.record_at-part.ensures c.reduction-stays.ensures _ c.is_dropped.ensures (let e : c.is_dropped.result ≡ true = cc in ap not e) c.record_at-rest.ensures c.front_length-size.ensures))
 
 pub decide_accepted-requires : goal.decide_accepted-requires
-decide_accepted-requires c = (proof_given c.requires.0 c.args.answer.now c.requires.1 c.record_at-part.ensures c.reduction-stays.ensures _ c.is_dropped.ensures (ap not c.if-not-is_dropped.false) c.record_at-rest.ensures c.front_length-size.ensures (bytes_from _ (λ i h. (c.shared_slice_known-1.given i).fits)) c.put_lean-chosen.ensures, c.requires.0.long, c.requires.1)
+decide_accepted-requires c = (proof_given c.requires.0 c.args.answer.now c.requires.1 c.record_at-part.ensures c.reduction-stays.ensures _ c.is_dropped.ensures (let e : c.is_dropped.result ≡ true = cc in ap not e) c.record_at-rest.ensures c.front_length-size.ensures (bytes_from _ (λ i h. (c.shared_slice_known-1.given i).fits)) c.put_lean-chosen.ensures, c.requires.0.long, c.requires.1)
 
 pub returns : goal.returns
-returns c = proof_told c.requires.0 c.args.answer.now c.requires.1 c.record_at-part.ensures c.reduction-stays.ensures _ c.is_dropped.ensures (ap not c.if-not-is_dropped.false) c.record_at-rest.ensures c.front_length-size.ensures (bytes_from _ (λ i h. (c.shared_slice_known-1.given i).fits)) c.put_lean-chosen.ensures c.decide_accepted.result _ c.decide_accepted.ensures c.proof_of.ensures
+returns c = proof_told c.requires.0 c.args.answer.now c.requires.1 c.record_at-part.ensures c.reduction-stays.ensures _ c.is_dropped.ensures (let e : c.is_dropped.result ≡ true = cc in ap not e) c.record_at-rest.ensures c.front_length-size.ensures (bytes_from _ (λ i h. (c.shared_slice_known-1.given i).fits)) c.put_lean-chosen.ensures c.decide_accepted.result _ c.decide_accepted.ensures c.proof_of.ensures

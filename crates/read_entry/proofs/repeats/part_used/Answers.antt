@@ -1,4 +1,5 @@
-use mathlib.Core.Path.{refl}
+use mathlib.Core.Path.{◌≡◌, refl}
+use mathlib.Core.Bool.{false}
 use native.Mathlib.Omega.{arith}
 use borrow.Author.Rules.{rules}
 use Rattle.read_entry.specs.Repeats.{any_record, Search, search_head, search_room, search_within, search_found, search_next, search_done}
@@ -29,7 +30,7 @@ pub slice_bounds-rest-start : goal.slice_bounds-rest-start
 slice_bounds-rest-start c = omega (arith, search_within c.loop-left.invariant c.loop-left-test.true, c.word-end.ensures.0)
 
 pub loop-left-preserved : goal.loop-left-preserved
-loop-left-preserved c = search_next c.loop-left.invariant c.loop-left-test.true c.word-end.ensures.0 c.same_bytes.ensures c.if-same_bytes.false
+loop-left-preserved c = search_next c.loop-left.invariant c.loop-left-test.true c.word-end.ensures.0 c.same_bytes.ensures (let e : c.same_bytes.result ≡ false = cc in e)
 
 pub returns : goal.returns
 returns c = search_done c.loop-left.invariant c.loop-left-test.false

@@ -26,4 +26,4 @@ pub slice_bounds-read_entries-start : goal.slice_bounds-read_entries-start
 slice_bounds-read_entries-start c = let h = edition_here _ c.is_edition_record.ensures (c.if-not-is_edition_record.false) in let w = h.within in omega arith
 
 pub returns : goal.returns
-returns c = profile_second _ c.if-bytes-gt-PROFILE_BYTES.false c.is_edition_record.ensures (ap not c.if-not-is_edition_record.false) c.wide.ensures.0 c.if-wide-ne-SECOND_EDITION.false (part_to_end c.args.bytes.now 5) c.read_entries-2.ensures.0 c.read_entries-2.ensures.1
+returns c = profile_second _ c.if-bytes-gt-PROFILE_BYTES.false c.is_edition_record.ensures (ap not c.if-not-is_edition_record.false) c.wide.ensures.0 (omega arith) (part_to_end c.args.bytes.now 5) c.read_entries-2.ensures.0 c.read_entries-2.ensures.1

@@ -17,4 +17,4 @@ pub returns-then-judge_node-ne-ACCEPTED : goal.returns-then-judge_node-ne-ACCEPT
 returns-then-judge_node-ne-ACCEPTED c = salvage_rootless _ _ _ c.node_kind-kind.ensures (bytes_from _ (λ i h. (c.shared_slice_known-1.given i).fits)) c.bytes_of.ensures.0 c.if-bytes_of-tree.false c.judge_node.ensures c.if-judge_node-ne-ACCEPTED.true _ c.refused-then-judge_node-ne-ACCEPTED.ensures _ _ _
 
 pub pass_records-requires : goal.pass_records-requires
-pass_records-requires c = (salvage_begins _ _ _ c.node_kind-kind.ensures (bytes_from _ (λ i h. (c.shared_slice_known-1.given i).fits)) c.bytes_of.ensures.0 c.if-bytes_of-tree.false c.judge_node.ensures c.if-judge_node-ne-ACCEPTED.false, c.requires.0, c.requires.1)
+pass_records-requires c = (salvage_begins _ _ _ c.node_kind-kind.ensures (bytes_from _ (λ i h. (c.shared_slice_known-1.given i).fits)) c.bytes_of.ensures.0 c.if-bytes_of-tree.false c.judge_node.ensures (omega arith), c.requires.0, c.requires.1)
