@@ -1,15 +1,13 @@
-// `campaign PROFILE LIST` (02, request 12): prints the report over the files that LIST names, one a line; or `refused` with number, input and record, or
+// `campaign PROFILE LIST`: prints the report over the files that LIST names, one a line; or `refused` with number, input and record, or
 // `unreadable` with the name of PROFILE or LIST. Thin over `program_campaign::report_campaign`.
 #![tactic(auto)]
 
 ghost use Rattle.std.specs.Prelude.{◌≡◌, length};
 
-use op_answers::{Filling, TREE_OR_PROOF};
+use op_answers::{Input, Refusal};
 use program_campaign::report_campaign;
-use program_files::{
-    ANSWER_ROOM, PROFILE_READ, part_read, print, print_refusal, read_argument, unread, word_count,
-};
-use read_judged::TOO_LARGE;
+use program_files::{ANSWER_ROOM, PROFILE_READ, read_argument, word_count};
+use read_judged::RefusalKind;
 use std::io;
 use std::io::{IsTerminal, Write};
 use std::rt::Files;
@@ -29,11 +27,20 @@ fn list_room() -> [u8; LIST_READ]
     [0u8; LIST_READ]
 }
 
-fn print_used(rt: &impl Print, answer: &[u8], used: usize) -> io::Result<()> {
-    if used <= answer.len() {
-        print(rt, &answer[..used])?;
+// 7: the list is over its size.
+fn too_large() -> Refusal {
+    Refusal {
+        kind: RefusalKind::TooLarge,
+        input: Input::TreeOrProof,
+        place: 0,
     }
-    Ok(())
+}
+
+fn print_used(rt: &impl Print, answer: &[u8], used: usize) -> io::Result<()> {
+    match answer.get(..used) {
+        Some(lines) => rt.write_all(lines),
+        None => Ok(()),
+    }
 }
 
 fn print_campaign(
@@ -44,33 +51,25 @@ fn print_campaign(
 ) -> io::Result<()> {
     let mut answer = [0u8; ANSWER_ROOM];
     if LIST_BYTES < list.len() {
-        return print_refusal(rt, TOO_LARGE, TREE_OR_PROOF, 0);
+        return println!(rt; "{}", too_large());
     }
-    let reported = report_campaign(rt, progress, list, profile, &mut answer);
-    match reported {
-        Filling::Filled(used) => print_used(rt, &answer, used),
-        Filling::Refused(r) => print_refusal(rt, r.number, r.input, r.place),
+    match report_campaign(rt, progress, list, profile, &mut answer) {
+        Ok(used) => print_used(rt, &answer, used),
+        Err(refusal) => println!(rt; "{refusal}"),
     }
 }
 
 fn main(rt: HostRuntime) -> io::Result<()> {
     if word_count(&rt) != WORDS {
-        return print(&rt, b"usage: campaign PROFILE LIST\n");
+        return println!(rt; "usage: campaign PROFILE LIST");
     }
     let mut profile = [0u8; PROFILE_READ];
     let mut list = list_room();
-    let first = read_argument(&rt, 1, &mut profile)?;
-    if unread(first) {
+    let Some(first) = read_argument(&rt, 1, &mut profile)? else {
         return Ok(());
-    }
-    let second = read_argument(&rt, 2, &mut list)?;
-    if unread(second) {
+    };
+    let Some(second) = read_argument(&rt, 2, &mut list)? else {
         return Ok(());
-    }
-    print_campaign(
-        &rt,
-        &mut rt.stderr(),
-        part_read(second, &list),
-        part_read(first, &profile),
-    )
+    };
+    print_campaign(&rt, &mut rt.stderr(), &list[..second], &profile[..first])
 }

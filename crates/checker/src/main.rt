@@ -3,12 +3,11 @@
 // `op_tree`. No decider is reached.
 #![tactic(auto)]
 
-use op_answers::Checking;
 use op_proof::check_proof;
 use op_tree::check_counterexample;
 use program_files::{
-    PROFILE_READ, PROOF_READ, QUESTION_READ, TREE_READ, is_word, part_read, print, print_refusal,
-    read_argument, unread, word_count,
+    PROFILE_READ, PROOF_READ, QUESTION_READ, TREE_READ, WORD_ROOM, read_argument, word_argument,
+    word_count,
 };
 use program_witness::print_countering;
 use std::io;
@@ -17,86 +16,53 @@ use std::rt::{Env, Files};
 // The program's own name, the word and the three files
 const WORDS: usize = 5;
 
-fn print_checking(rt: &impl Print, checking: Checking) -> io::Result<()> {
-    match checking {
-        Checking::Accepted => print(rt, b"accepted\n"),
-        Checking::Refused(refusal) => print_refusal(
-            rt,
-            refusal.number,
-            refusal.input,
-            refusal.place,
-        ),
-    }
-}
-
 fn proof(rt: &(impl Env + Files + Print)) -> io::Result<()> {
     let mut profile = [0u8; PROFILE_READ];
     let mut question = [0u8; QUESTION_READ];
     let mut lines = [0u8; PROOF_READ];
-    let first = read_argument(rt, 2, &mut profile)?;
-    if unread(first) {
+    let Some(first) = read_argument(rt, 2, &mut profile)? else {
         return Ok(());
-    }
-    let second = read_argument(rt, 3, &mut question)?;
-    if unread(second) {
+    };
+    let Some(second) = read_argument(rt, 3, &mut question)? else {
         return Ok(());
-    }
-    let third = read_argument(rt, 4, &mut lines)?;
-    if unread(third) {
+    };
+    let Some(third) = read_argument(rt, 4, &mut lines)? else {
         return Ok(());
+    };
+    match check_proof(&profile[..first], &question[..second], &lines[..third]) {
+        Ok(()) => println!(rt; "accepted"),
+        Err(refusal) => println!(rt; "{refusal}"),
     }
-    print_checking(
-        rt,
-        check_proof(
-            part_read(first, &profile),
-            part_read(second, &question),
-            part_read(third, &lines),
-        ),
-    )
 }
 
 fn tree(rt: &(impl Env + Files + Print)) -> io::Result<()> {
     let mut profile = [0u8; PROFILE_READ];
     let mut question = [0u8; QUESTION_READ];
     let mut nodes = [0u8; TREE_READ];
-    let first = read_argument(rt, 2, &mut profile)?;
-    if unread(first) {
+    let Some(first) = read_argument(rt, 2, &mut profile)? else {
         return Ok(());
-    }
-    let second = read_argument(rt, 3, &mut question)?;
-    if unread(second) {
+    };
+    let Some(second) = read_argument(rt, 3, &mut question)? else {
         return Ok(());
-    }
-    let third = read_argument(rt, 4, &mut nodes)?;
-    if unread(third) {
+    };
+    let Some(third) = read_argument(rt, 4, &mut nodes)? else {
         return Ok(());
-    }
+    };
     print_countering(
         rt,
-        check_counterexample(
-            part_read(first, &profile),
-            part_read(second, &question),
-            part_read(third, &nodes),
-        ),
+        check_counterexample(&profile[..first], &question[..second], &nodes[..third]),
     )
 }
 
 fn usage(rt: &impl Print) -> io::Result<()> {
-    print(
-        rt,
-        b"usage: checker proof PROFILE QUESTION PROOF | checker tree PROFILE QUESTION TREE\n",
-    )
+    println!(rt; "usage: checker proof PROFILE QUESTION PROOF | checker tree PROFILE QUESTION TREE")
 }
 
 fn main(rt: HostRuntime) -> io::Result<()> {
-    if word_count(&rt) != WORDS {
-        return usage(&rt);
+    let mut room = [0u8; WORD_ROOM];
+    match (word_count(&rt), word_argument(&rt, 1, &mut room)) {
+        (WORDS, b"proof") => proof(&rt),
+        (WORDS, b"tree") => tree(&rt),
+        _ => usage(&rt),
     }
-    if is_word(&rt, 1, b"proof") {
-        return proof(&rt);
-    }
-    if is_word(&rt, 1, b"tree") {
-        return tree(&rt);
-    }
-    usage(&rt)
 }

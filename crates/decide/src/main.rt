@@ -2,11 +2,10 @@
 // `refused` with number, input and record; or `unreadable` with the name of a file. Thin over `op_decide::decide`.
 #![tactic(auto)]
 
-use op_answers::Deciding;
+use op_answers::Decision;
 use op_decide::decide;
 use program_files::{
-    ANSWER_ROOM, PROFILE_READ, QUESTION_READ, part_read, print, print_refusal, read_argument,
-    unread, word_count, write_used,
+    ANSWER_ROOM, PROFILE_READ, QUESTION_READ, read_argument, word_count, write_used,
 };
 use std::io;
 use std::rt::{Env, Files};
@@ -21,29 +20,22 @@ fn decide_files(rt: &(impl Env + Files + Print)) -> io::Result<()> {
     let mut profile = [0u8; PROFILE_READ];
     let mut question = [0u8; QUESTION_READ];
     let mut answer = [0u8; ANSWER_ROOM];
-    let first = read_argument(rt, 1, &mut profile)?;
-    if unread(first) {
+    let Some(first) = read_argument(rt, 1, &mut profile)? else {
         return Ok(());
-    }
-    let second = read_argument(rt, 2, &mut question)?;
-    if unread(second) {
+    };
+    let Some(second) = read_argument(rt, 2, &mut question)? else {
         return Ok(());
-    }
-    let decided = decide(
-        part_read(first, &profile),
-        part_read(second, &question),
-        &mut answer,
-    );
-    match decided {
-        Deciding::Implied(used) => write_used(rt, OUT, b"implied", &answer, used),
-        Deciding::NotImplied(used) => write_used(rt, OUT, b"not implied", &answer, used),
-        Deciding::Refused(r) => print_refusal(rt, r.number, r.input, r.place),
+    };
+    match decide(&profile[..first], &question[..second], &mut answer) {
+        Ok(Decision::Implied(used)) => write_used(rt, OUT, "implied", &answer, used),
+        Ok(Decision::NotImplied(used)) => write_used(rt, OUT, "not implied", &answer, used),
+        Err(refusal) => println!(rt; "{refusal}"),
     }
 }
 
 fn main(rt: HostRuntime) -> io::Result<()> {
     if word_count(&rt) != WORDS {
-        return print(&rt, b"usage: decide PROFILE QUESTION OUT\n");
+        return println!(rt; "usage: decide PROFILE QUESTION OUT");
     }
     decide_files(&rt)
 }

@@ -1,12 +1,9 @@
-// The listing program of document 01: reads a tree file on standard input, with labels taken as in the profile that it opens by the fixed name
-// `profile.key`, and prints all blocks of its listing; on a refusal only `refused` with number, input and record.
+// The listing program: reads a tree file on standard input, with labels taken as in the profile that it opens by the fixed name `profile.key`, and
+// prints all blocks of its listing; on a refusal only `refused` with number, input and record.
 #![tactic(auto)]
 
-use op_answers::Listing;
 use op_list::list_block;
-use program_files::{
-    ANSWER_ROOM, PROFILE_READ, TREE_READ, print, print_refusal, read_counted, read_or_empty,
-};
+use program_files::{ANSWER_ROOM, PROFILE_READ, TREE_READ, read_counted, read_or_empty};
 use std::io;
 
 // The first line and 4,096 nodes are lines of five blocks.
@@ -15,17 +12,16 @@ const BLOCKS: usize = 5;
 // Prints one block; false where the listing is refused.
 fn print_block(rt: &impl Print, profile: &[u8], tree: &[u8], block: usize) -> io::Result<bool> {
     let mut answer = [0u8; ANSWER_ROOM];
-    let listing = list_block(profile, tree, block, &mut answer);
-    match listing {
-        Listing::Refused(r) => {
-            print_refusal(rt, r.number, r.input, r.place)?;
-            Ok(false)
-        }
-        Listing::Listed(used) => {
-            if used <= ANSWER_ROOM {
-                print(rt, &answer[..used])?;
+    match list_block(profile, tree, block, &mut answer) {
+        Ok(used) => {
+            if let Some(lines) = answer.get(..used) {
+                rt.write_all(lines)?;
             }
             Ok(true)
+        }
+        Err(refusal) => {
+            println!(rt; "{refusal}")?;
+            Ok(false)
         }
     }
 }
@@ -34,7 +30,7 @@ fn print_block(rt: &impl Print, profile: &[u8], tree: &[u8], block: usize) -> io
 fn print_blocks(rt: &impl Print, profile: &[u8], tree: &[u8]) -> io::Result<()> {
     for block in 0..BLOCKS {
         if !print_block(rt, profile, tree, block)? {
-            return Ok(());
+            break;
         }
     }
     Ok(())

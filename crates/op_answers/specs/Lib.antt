@@ -1,3 +1,4 @@
 pub mod Cases
 pub mod Outcomes
 pub mod OneToOne
+pub mod Printed

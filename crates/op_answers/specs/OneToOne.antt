@@ -1,35 +1,50 @@
--- An answer of `meaning` stands for one case of its enum: with the uniqueness of the answers, an operation's result and the buffer at its end are fixed.
-use Rattle.std.specs.Prelude.{ℕ, ◌*◌, ◌-◌, ◌≤◌, ◌≡◌, refl, List, [], ◌++◌, length, take, drop, replicate, get_or}
+-- An answer of `meaning` stands for one case of its type: with the uniqueness of the answers, an operation's result and the buffer at its end are fixed.
+use Rattle.std.specs.Prelude.{ℕ, ◌*◌, ◌-◌, ◌≤◌, ◌≡◌, refl, Bool, true, false, cond, eqb, Option, Some, None, Result, Ok, Err, List, [], ◌++◌, length, take, drop, replicate, get_or}
 use Rattle.std.proofs.Common.{sym, ◌∙◌, ap, ap₂, arith, take-append-drop, length-take-le}
 use Rattle.meaning.specs.Refusals as Table
 use Rattle.meaning.specs.Operations.{Answer, Verdict, refused_by, plain, shown, broken_by, refused, rewritten, included, not_included, kept, broken, accepted, listed, implied, not_implied}
+use Rattle.read_judged.specs.Answers.{same_kind}
+use Rattle.read_judged.specs.declared.RefusalKind.{RefusalKind}
+use Rattle.op_answers.specs.declared.Input.{Input}
+use Rattle.op_answers.specs.declared.Input.TheVariants as I
 use Rattle.op_answers.specs.declared.Refusal.{Refusal}
-use Rattle.op_answers.specs.declared.Rewriting.{Rewriting}
-use Rattle.op_answers.specs.declared.Rewriting.TheVariants as R
-use Rattle.op_answers.specs.declared.Inclusion.{Inclusion}
-use Rattle.op_answers.specs.declared.Inclusion.TheVariants as I
 use Rattle.op_answers.specs.declared.Witness.{Witness}
-use Rattle.op_answers.specs.declared.Keeping.{Keeping}
-use Rattle.op_answers.specs.declared.Keeping.TheVariants as K
-use Rattle.op_answers.specs.declared.Checking.{Checking}
-use Rattle.op_answers.specs.declared.Checking.TheVariants as C
-use Rattle.op_answers.specs.declared.Countering.{Countering}
-use Rattle.op_answers.specs.declared.Countering.TheVariants as N
-use Rattle.op_answers.specs.declared.Listing.{Listing}
-use Rattle.op_answers.specs.declared.Listing.TheVariants as L
-use Rattle.op_answers.specs.declared.Deciding.{Deciding}
-use Rattle.op_answers.specs.declared.Deciding.TheVariants as D
-use Rattle.op_answers.specs.declared.Filling.{Filling}
-use Rattle.op_answers.specs.declared.Filling.TheVariants as F
-use Rattle.op_answers.specs.Cases.{meant, numbers_of, pairs_of, Padded, KeepingPadded, CounteringPadded, rewriting_answer, inclusion_answer, keeping_answer, checking_answer, countering_answer, listing_answer, deciding_answer, filling_answer}
+use Rattle.op_answers.specs.declared.Countered.{Countered}
+use Rattle.op_answers.specs.declared.Countered.TheVariants.{Breaks, Refused}
+use Rattle.op_answers.specs.declared.Decision.{Decision}
+use Rattle.op_answers.specs.declared.Decision.TheVariants.{Implied, NotImplied}
+use Rattle.op_answers.specs.Cases.{input_of, meant, numbers_of, pairs_of, Padded, KeepingPadded, CounteringPadded, rewriting_answer, inclusion_answer, keeping_answer, checking_answer, countering_answer, listing_answer, deciding_answer, filling_answer}
+
+-- the number names the input
+input_at : ℕ → Input
+input_at n = cond (eqb n 1) I.Profile (cond (eqb n 2) I.Question (cond (eqb n 3) I.TreeOrProof I.Answer))
+
+input_again : (input : Input) → input_at (input_of input) ≡ input
+unfolding input_at
+input_again I.Profile = refl
+input_again I.Question = refl
+input_again I.TreeOrProof = refl
+input_again I.Answer = refl
+
+same_input : (a b : Input) → input_of a ≡ input_of b → a ≡ b
+same_input a b e = sym (input_again a) ∙ ap input_at e ∙ input_again b
 
 -- a refusal is its number, input and record
-refusal_in : Answer → Refusal
-refusal_in a = record { number = a.number; input = a.input; place = a.place }
+refusal_made : RefusalKind → Input → ℕ → Refusal
+refusal_made kind input place = record { kind = kind; input = input; place = place }
+
+refusal_same : (r s : Refusal) → r.kind ≡ s.kind → r.input ≡ s.input → r.place ≡ s.place → r ≡ s
+unfolding refusal_made
+refusal_same r s k i p =
+    ap (λ (kind : RefusalKind). refusal_made kind r.input r.place) k
+    ∙ ap₂ (λ (input : Input) (place : ℕ). refusal_made s.kind input place) i p
 
 refusal_one : (r s : Refusal) (x y : List ℕ) → refused_by (meant r) x ≡ refused_by (meant s) y → (r ≡ s) × (x ≡ y)
-unfolding refused_by refusal_in
-refusal_one r s x y e = (ap refusal_in e, ap (λ (z : Answer). z.buffer) e)
+unfolding refused_by
+refusal_one r s x y e = (
+  refusal_same r s (same_kind r.kind s.kind (ap (λ (z : Answer). z.number) e)) (same_input r.input s.input (ap (λ (z : Answer). z.input) e)) (ap (λ (z : Answer). z.place) e),
+  ap (λ (z : Answer). z.buffer) e,
+)
 
 -- a witness is its numbers, with 0 behind them
 witness_in : ℕ → List ℕ → List ℕ → Witness
@@ -70,80 +85,72 @@ witness_one w v p q e =
     paths_one w.paths v.paths (pairs_of w) (pairs_of v) p.few q.few refl refl (ap (λ (l : List ℕ). length (drop 3 l)) e) in
     witness_from w p ∙ ap₂ from_numbers n e ∙ sym (witness_from v q)
 
-pub rewriting_one : (a b : Rewriting) (x y : List ℕ) → rewriting_answer a x ≡ rewriting_answer b y → (a ≡ b) × (x ≡ y)
+-- an operation that fills a buffer, whatever its verdict but a refusal
+pub filling_one : (v : Verdict) → (v ≡ refused → ⊥) → (a b : Result ℕ Refusal) (x y : List ℕ) → filling_answer v a x ≡ filling_answer v b y → (a ≡ b) × (x ≡ y)
 unfolding refused_by
-rewriting_one (R.Rewritten n) (R.Rewritten n') x y e = (ap R.Rewritten (ap (λ (z : Answer). z.used) e), ap (λ (z : Answer). z.buffer) e)
-rewriting_one (R.Rewritten n) (R.Refused n') x y e = let v : rewritten ≡ refused = ap (λ (z : Answer). z.verdict) e in let z : ◌≡◌ {A = ℕ} 0 1 = cc in absurd (omega arith)
-rewriting_one (R.Refused n) (R.Rewritten n') x y e = let v : refused ≡ rewritten = ap (λ (z : Answer). z.verdict) e in let z : ◌≡◌ {A = ℕ} 0 1 = cc in absurd (omega arith)
-rewriting_one (R.Refused n) (R.Refused n') x y e = let r = refusal_one n n' x y e in (ap R.Refused r.0, r.1)
+filling_one v other (Ok n) (Ok m) x y e = (ap Ok (ap (λ (z : Answer). z.used) e), ap (λ (z : Answer). z.buffer) e)
+filling_one v other (Ok n) (Err s) x y e = absurd (other (ap (λ (z : Answer). z.verdict) e))
+filling_one v other (Err r) (Ok m) x y e = absurd (other (sym (ap (λ (z : Answer). z.verdict) e)))
+filling_one v other (Err r) (Err s) x y e = let p = refusal_one r s x y e in (ap Err p.0, p.1)
 
-pub listing_one : (a b : Listing) (x y : List ℕ) → listing_answer a x ≡ listing_answer b y → (a ≡ b) × (x ≡ y)
+pub rewriting_one : (a b : Result ℕ Refusal) (x y : List ℕ) → rewriting_answer a x ≡ rewriting_answer b y → (a ≡ b) × (x ≡ y)
+rewriting_one a b x y e = filling_one rewritten (λ (d : rewritten ≡ refused). let z : ◌≡◌ {A = ℕ} 0 1 = cc in absurd (omega arith)) a b x y e
+
+pub listing_one : (a b : Result ℕ Refusal) (x y : List ℕ) → listing_answer a x ≡ listing_answer b y → (a ≡ b) × (x ≡ y)
+listing_one a b x y e = filling_one listed (λ (d : listed ≡ refused). let z : ◌≡◌ {A = ℕ} 0 1 = cc in absurd (omega arith)) a b x y e
+
+pub deciding_one : (a b : Result Decision Refusal) (x y : List ℕ) → deciding_answer a x ≡ deciding_answer b y → (a ≡ b) × (x ≡ y)
 unfolding refused_by
-listing_one (L.Listed n) (L.Listed n') x y e = (ap L.Listed (ap (λ (z : Answer). z.used) e), ap (λ (z : Answer). z.buffer) e)
-listing_one (L.Listed n) (L.Refused n') x y e = let v : listed ≡ refused = ap (λ (z : Answer). z.verdict) e in let z : ◌≡◌ {A = ℕ} 0 1 = cc in absurd (omega arith)
-listing_one (L.Refused n) (L.Listed n') x y e = let v : refused ≡ listed = ap (λ (z : Answer). z.verdict) e in let z : ◌≡◌ {A = ℕ} 0 1 = cc in absurd (omega arith)
-listing_one (L.Refused n) (L.Refused n') x y e = let r = refusal_one n n' x y e in (ap L.Refused r.0, r.1)
+deciding_one (Ok (Implied n)) (Ok (Implied m)) x y e = (ap (λ (u : ℕ). Ok (Implied u)) (ap (λ (z : Answer). z.used) e), ap (λ (z : Answer). z.buffer) e)
+deciding_one (Ok (Implied n)) (Ok (NotImplied m)) x y e = let d : implied ≡ not_implied = ap (λ (z : Answer). z.verdict) e in let z : ◌≡◌ {A = ℕ} 0 1 = cc in absurd (omega arith)
+deciding_one (Ok (Implied n)) (Err s) x y e = let d : implied ≡ refused = ap (λ (z : Answer). z.verdict) e in let z : ◌≡◌ {A = ℕ} 0 1 = cc in absurd (omega arith)
+deciding_one (Ok (NotImplied n)) (Ok (Implied m)) x y e = let d : not_implied ≡ implied = ap (λ (z : Answer). z.verdict) e in let z : ◌≡◌ {A = ℕ} 0 1 = cc in absurd (omega arith)
+deciding_one (Ok (NotImplied n)) (Ok (NotImplied m)) x y e = (ap (λ (u : ℕ). Ok (NotImplied u)) (ap (λ (z : Answer). z.used) e), ap (λ (z : Answer). z.buffer) e)
+deciding_one (Ok (NotImplied n)) (Err s) x y e = let d : not_implied ≡ refused = ap (λ (z : Answer). z.verdict) e in let z : ◌≡◌ {A = ℕ} 0 1 = cc in absurd (omega arith)
+deciding_one (Err r) (Ok (Implied m)) x y e = let d : refused ≡ implied = ap (λ (z : Answer). z.verdict) e in let z : ◌≡◌ {A = ℕ} 0 1 = cc in absurd (omega arith)
+deciding_one (Err r) (Ok (NotImplied m)) x y e = let d : refused ≡ not_implied = ap (λ (z : Answer). z.verdict) e in let z : ◌≡◌ {A = ℕ} 0 1 = cc in absurd (omega arith)
+deciding_one (Err r) (Err s) x y e = let p = refusal_one r s x y e in (ap Err p.0, p.1)
 
-pub deciding_one : (a b : Deciding) (x y : List ℕ) → deciding_answer a x ≡ deciding_answer b y → (a ≡ b) × (x ≡ y)
-unfolding refused_by
-deciding_one (D.Implied n) (D.Implied n') x y e = (ap D.Implied (ap (λ (z : Answer). z.used) e), ap (λ (z : Answer). z.buffer) e)
-deciding_one (D.Implied n) (D.NotImplied n') x y e = let v : implied ≡ not_implied = ap (λ (z : Answer). z.verdict) e in let z : ◌≡◌ {A = ℕ} 0 1 = cc in absurd (omega arith)
-deciding_one (D.Implied n) (D.Refused n') x y e = let v : implied ≡ refused = ap (λ (z : Answer). z.verdict) e in let z : ◌≡◌ {A = ℕ} 0 1 = cc in absurd (omega arith)
-deciding_one (D.NotImplied n) (D.Implied n') x y e = let v : not_implied ≡ implied = ap (λ (z : Answer). z.verdict) e in let z : ◌≡◌ {A = ℕ} 0 1 = cc in absurd (omega arith)
-deciding_one (D.NotImplied n) (D.NotImplied n') x y e = (ap D.NotImplied (ap (λ (z : Answer). z.used) e), ap (λ (z : Answer). z.buffer) e)
-deciding_one (D.NotImplied n) (D.Refused n') x y e = let v : not_implied ≡ refused = ap (λ (z : Answer). z.verdict) e in let z : ◌≡◌ {A = ℕ} 0 1 = cc in absurd (omega arith)
-deciding_one (D.Refused n) (D.Implied n') x y e = let v : refused ≡ implied = ap (λ (z : Answer). z.verdict) e in let z : ◌≡◌ {A = ℕ} 0 1 = cc in absurd (omega arith)
-deciding_one (D.Refused n) (D.NotImplied n') x y e = let v : refused ≡ not_implied = ap (λ (z : Answer). z.verdict) e in let z : ◌≡◌ {A = ℕ} 0 1 = cc in absurd (omega arith)
-deciding_one (D.Refused n) (D.Refused n') x y e = let r = refusal_one n n' x y e in (ap D.Refused r.0, r.1)
-
-pub inclusion_one : (a b : Inclusion) → inclusion_answer a ≡ inclusion_answer b → a ≡ b
+pub inclusion_one : (a b : Result Bool Refusal) → inclusion_answer a ≡ inclusion_answer b → a ≡ b
 unfolding refused_by plain
-inclusion_one I.Included I.Included e = refl
-inclusion_one I.Included I.NotIncluded e = let v : included ≡ not_included = ap (λ (z : Answer). z.verdict) e in let z : ◌≡◌ {A = ℕ} 0 1 = cc in absurd (omega arith)
-inclusion_one I.Included (I.Refused n') e = let v : included ≡ refused = ap (λ (z : Answer). z.verdict) e in let z : ◌≡◌ {A = ℕ} 0 1 = cc in absurd (omega arith)
-inclusion_one I.NotIncluded I.Included e = let v : not_included ≡ included = ap (λ (z : Answer). z.verdict) e in let z : ◌≡◌ {A = ℕ} 0 1 = cc in absurd (omega arith)
-inclusion_one I.NotIncluded I.NotIncluded e = refl
-inclusion_one I.NotIncluded (I.Refused n') e = let v : not_included ≡ refused = ap (λ (z : Answer). z.verdict) e in let z : ◌≡◌ {A = ℕ} 0 1 = cc in absurd (omega arith)
-inclusion_one (I.Refused n) I.Included e = let v : refused ≡ included = ap (λ (z : Answer). z.verdict) e in let z : ◌≡◌ {A = ℕ} 0 1 = cc in absurd (omega arith)
-inclusion_one (I.Refused n) I.NotIncluded e = let v : refused ≡ not_included = ap (λ (z : Answer). z.verdict) e in let z : ◌≡◌ {A = ℕ} 0 1 = cc in absurd (omega arith)
-inclusion_one (I.Refused n) (I.Refused n') e = ap I.Refused (refusal_one n n' [] [] e).0
+inclusion_one (Ok true) (Ok true) e = refl
+inclusion_one (Ok true) (Ok false) e = let d : included ≡ not_included = ap (λ (z : Answer). z.verdict) e in let z : ◌≡◌ {A = ℕ} 0 1 = cc in absurd (omega arith)
+inclusion_one (Ok true) (Err s) e = let d : included ≡ refused = ap (λ (z : Answer). z.verdict) e in let z : ◌≡◌ {A = ℕ} 0 1 = cc in absurd (omega arith)
+inclusion_one (Ok false) (Ok true) e = let d : not_included ≡ included = ap (λ (z : Answer). z.verdict) e in let z : ◌≡◌ {A = ℕ} 0 1 = cc in absurd (omega arith)
+inclusion_one (Ok false) (Ok false) e = refl
+inclusion_one (Ok false) (Err s) e = let d : not_included ≡ refused = ap (λ (z : Answer). z.verdict) e in let z : ◌≡◌ {A = ℕ} 0 1 = cc in absurd (omega arith)
+inclusion_one (Err r) (Ok true) e = let d : refused ≡ included = ap (λ (z : Answer). z.verdict) e in let z : ◌≡◌ {A = ℕ} 0 1 = cc in absurd (omega arith)
+inclusion_one (Err r) (Ok false) e = let d : refused ≡ not_included = ap (λ (z : Answer). z.verdict) e in let z : ◌≡◌ {A = ℕ} 0 1 = cc in absurd (omega arith)
+inclusion_one (Err r) (Err s) e = ap Err (refusal_one r s [] [] e).0
 
-pub checking_one : (a b : Checking) → checking_answer a ≡ checking_answer b → a ≡ b
+pub checking_one : (a b : Result Unit Refusal) → checking_answer a ≡ checking_answer b → a ≡ b
 unfolding refused_by plain
-checking_one C.Accepted C.Accepted e = refl
-checking_one C.Accepted (C.Refused n') e = let v : accepted ≡ refused = ap (λ (z : Answer). z.verdict) e in let z : ◌≡◌ {A = ℕ} 0 1 = cc in absurd (omega arith)
-checking_one (C.Refused n) C.Accepted e = let v : refused ≡ accepted = ap (λ (z : Answer). z.verdict) e in let z : ◌≡◌ {A = ℕ} 0 1 = cc in absurd (omega arith)
-checking_one (C.Refused n) (C.Refused n') e = ap C.Refused (refusal_one n n' [] [] e).0
-
--- an operation of 02 that fills a buffer, whatever its verdict but a refusal
-pub filling_one : (v : Verdict) → (v ≡ refused → ⊥) → (a b : Filling) (x y : List ℕ) → filling_answer v a x ≡ filling_answer v b y → (a ≡ b) × (x ≡ y)
-unfolding refused_by
-filling_one v other (F.Filled n) (F.Filled n') x y e = (ap F.Filled (ap (λ (z : Answer). z.used) e), ap (λ (z : Answer). z.buffer) e)
-filling_one v other (F.Filled n) (F.Refused n') x y e = absurd (other (ap (λ (z : Answer). z.verdict) e))
-filling_one v other (F.Refused n) (F.Filled n') x y e = absurd (other (sym (ap (λ (z : Answer). z.verdict) e)))
-filling_one v other (F.Refused n) (F.Refused n') x y e = let r = refusal_one n n' x y e in (ap F.Refused r.0, r.1)
+checking_one (Ok u) (Ok v) e = refl
+checking_one (Ok u) (Err s) e = let d : accepted ≡ refused = ap (λ (z : Answer). z.verdict) e in let z : ◌≡◌ {A = ℕ} 0 1 = cc in absurd (omega arith)
+checking_one (Err r) (Ok v) e = let d : refused ≡ accepted = ap (λ (z : Answer). z.verdict) e in let z : ◌≡◌ {A = ℕ} 0 1 = cc in absurd (omega arith)
+checking_one (Err r) (Err s) e = ap Err (refusal_one r s [] [] e).0
 
 -- broken and accepted carry a witness, and 12 one with the number of its key: of padded witnesses there is one
-pub keeping_one : (a b : Keeping) → KeepingPadded a → KeepingPadded b → keeping_answer a ≡ keeping_answer b → a ≡ b
+pub keeping_one : (a b : Result (Option Witness) Refusal) → KeepingPadded a → KeepingPadded b → keeping_answer a ≡ keeping_answer b → a ≡ b
 unfolding refused_by plain shown
-keeping_one K.Kept K.Kept p q e = refl
-keeping_one K.Kept (K.Broken v) p q e = let d : kept ≡ broken = ap (λ (z : Answer). z.verdict) e in let z : ◌≡◌ {A = ℕ} 0 1 = cc in absurd (omega arith)
-keeping_one K.Kept (K.Refused m) p q e = let d : kept ≡ refused = ap (λ (z : Answer). z.verdict) e in let z : ◌≡◌ {A = ℕ} 0 1 = cc in absurd (omega arith)
-keeping_one (K.Broken w) K.Kept p q e = let d : broken ≡ kept = ap (λ (z : Answer). z.verdict) e in let z : ◌≡◌ {A = ℕ} 0 1 = cc in absurd (omega arith)
-keeping_one (K.Broken w) (K.Broken v) p q e = ap K.Broken (witness_one w v (p.padded w refl) (q.padded v refl) (ap (λ (z : Answer). z.witness) e))
-keeping_one (K.Broken w) (K.Refused m) p q e = let d : broken ≡ refused = ap (λ (z : Answer). z.verdict) e in let z : ◌≡◌ {A = ℕ} 0 1 = cc in absurd (omega arith)
-keeping_one (K.Refused n) K.Kept p q e = let d : refused ≡ kept = ap (λ (z : Answer). z.verdict) e in let z : ◌≡◌ {A = ℕ} 0 1 = cc in absurd (omega arith)
-keeping_one (K.Refused n) (K.Broken v) p q e = let d : refused ≡ broken = ap (λ (z : Answer). z.verdict) e in let z : ◌≡◌ {A = ℕ} 0 1 = cc in absurd (omega arith)
-keeping_one (K.Refused n) (K.Refused m) p q e = ap K.Refused (refusal_one n m [] [] e).0
+keeping_one (Ok None) (Ok None) p q e = refl
+keeping_one (Ok None) (Ok (Some v)) p q e = let d : kept ≡ broken = ap (λ (z : Answer). z.verdict) e in let z : ◌≡◌ {A = ℕ} 0 1 = cc in absurd (omega arith)
+keeping_one (Ok None) (Err s) p q e = let d : kept ≡ refused = ap (λ (z : Answer). z.verdict) e in let z : ◌≡◌ {A = ℕ} 0 1 = cc in absurd (omega arith)
+keeping_one (Ok (Some w)) (Ok None) p q e = let d : broken ≡ kept = ap (λ (z : Answer). z.verdict) e in let z : ◌≡◌ {A = ℕ} 0 1 = cc in absurd (omega arith)
+keeping_one (Ok (Some w)) (Ok (Some v)) p q e = ap (λ (u : Witness). Ok (Some u)) (witness_one w v (p.padded w refl) (q.padded v refl) (ap (λ (z : Answer). z.witness) e))
+keeping_one (Ok (Some w)) (Err s) p q e = let d : broken ≡ refused = ap (λ (z : Answer). z.verdict) e in let z : ◌≡◌ {A = ℕ} 0 1 = cc in absurd (omega arith)
+keeping_one (Err r) (Ok None) p q e = let d : refused ≡ kept = ap (λ (z : Answer). z.verdict) e in let z : ◌≡◌ {A = ℕ} 0 1 = cc in absurd (omega arith)
+keeping_one (Err r) (Ok (Some v)) p q e = let d : refused ≡ broken = ap (λ (z : Answer). z.verdict) e in let z : ◌≡◌ {A = ℕ} 0 1 = cc in absurd (omega arith)
+keeping_one (Err r) (Err s) p q e = ap Err (refusal_one r s [] [] e).0
 
-pub countering_one : (a b : Countering) → CounteringPadded a → CounteringPadded b → countering_answer a ≡ countering_answer b → a ≡ b
+pub countering_one : (a b : Result Witness Countered) → CounteringPadded a → CounteringPadded b → countering_answer a ≡ countering_answer b → a ≡ b
 unfolding refused_by shown broken_by
-countering_one (N.Accepted w) (N.Accepted v) p q e = ap N.Accepted (witness_one w v (p.accepts w refl) (q.accepts v refl) (ap (λ (z : Answer). z.witness) e))
-countering_one (N.Accepted w) (N.Breaks j v) p q e = let d : accepted ≡ refused = ap (λ (z : Answer). z.verdict) e in let z : ◌≡◌ {A = ℕ} 0 1 = cc in absurd (omega arith)
-countering_one (N.Accepted w) (N.Refused m) p q e = let d : accepted ≡ refused = ap (λ (z : Answer). z.verdict) e in let z : ◌≡◌ {A = ℕ} 0 1 = cc in absurd (omega arith)
-countering_one (N.Breaks i w) (N.Accepted v) p q e = let d : refused ≡ accepted = ap (λ (z : Answer). z.verdict) e in let z : ◌≡◌ {A = ℕ} 0 1 = cc in absurd (omega arith)
-countering_one (N.Breaks i w) (N.Breaks j v) p q e = ap₂ N.Breaks (ap (λ (z : Answer). z.place) e) (witness_one w v (p.breaks i w refl) (q.breaks j v refl) (ap (λ (z : Answer). z.witness) e))
-countering_one (N.Breaks i w) (N.Refused m) p q e = let d : numbers_of w ≡ [] = ap (λ (z : Answer). z.witness) e in let z : ◌≡◌ {A = ℕ} 0 1 = cc in absurd (omega arith)
-countering_one (N.Refused n) (N.Accepted v) p q e = let d : refused ≡ accepted = ap (λ (z : Answer). z.verdict) e in let z : ◌≡◌ {A = ℕ} 0 1 = cc in absurd (omega arith)
-countering_one (N.Refused n) (N.Breaks j v) p q e = let d : [] ≡ numbers_of v = ap (λ (z : Answer). z.witness) e in let z : ◌≡◌ {A = ℕ} 0 1 = cc in absurd (omega arith)
-countering_one (N.Refused n) (N.Refused m) p q e = ap N.Refused (refusal_one n m [] [] e).0
+countering_one (Ok w) (Ok v) p q e = ap Ok (witness_one w v (p.accepts w refl) (q.accepts v refl) (ap (λ (z : Answer). z.witness) e))
+countering_one (Ok w) (Err (Breaks j v)) p q e = let d : accepted ≡ refused = ap (λ (z : Answer). z.verdict) e in let z : ◌≡◌ {A = ℕ} 0 1 = cc in absurd (omega arith)
+countering_one (Ok w) (Err (Refused m)) p q e = let d : accepted ≡ refused = ap (λ (z : Answer). z.verdict) e in let z : ◌≡◌ {A = ℕ} 0 1 = cc in absurd (omega arith)
+countering_one (Err (Breaks i w)) (Ok v) p q e = let d : refused ≡ accepted = ap (λ (z : Answer). z.verdict) e in let z : ◌≡◌ {A = ℕ} 0 1 = cc in absurd (omega arith)
+countering_one (Err (Breaks i w)) (Err (Breaks j v)) p q e = ap₂ (λ (n : ℕ) (u : Witness). Err (Breaks n u)) (ap (λ (z : Answer). z.place) e) (witness_one w v (p.breaks i w refl) (q.breaks j v refl) (ap (λ (z : Answer). z.witness) e))
+countering_one (Err (Breaks i w)) (Err (Refused m)) p q e = let d : numbers_of w ≡ [] = ap (λ (z : Answer). z.witness) e in let z : ◌≡◌ {A = ℕ} 0 1 = cc in absurd (omega arith)
+countering_one (Err (Refused n)) (Ok v) p q e = let d : refused ≡ accepted = ap (λ (z : Answer). z.verdict) e in let z : ◌≡◌ {A = ℕ} 0 1 = cc in absurd (omega arith)
+countering_one (Err (Refused n)) (Err (Breaks j v)) p q e = let d : [] ≡ numbers_of v = ap (λ (z : Answer). z.witness) e in let z : ◌≡◌ {A = ℕ} 0 1 = cc in absurd (omega arith)
+countering_one (Err (Refused n)) (Err (Refused m)) p q e = ap (λ (u : Refusal). Err (Refused u)) (refusal_one n m [] [] e).0

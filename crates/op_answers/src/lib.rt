@@ -1,46 +1,59 @@
-// The answers of the public operations, as enums. specs/Answers gives for each case of each enum the answer of `meaning` that it stands for:
-// verdict, refusal number, input and record, bytes used and the answer buffer at the end. The contracts read through it.
+// The answers of the public operations. specs/Cases gives for each case of each type the answer of `meaning` that it stands for: verdict, refusal
+// number, input and record, bytes used and the answer buffer at the end. The contracts read through it.
 #![tactic(auto)]
 
 ghost use Rattle.std.specs.Prelude.{◌≡◌};
-ghost use Rattle.op_answers.specs.Cases.{outcome_of, meant};
+ghost use Rattle.op_answers.specs.Cases.{input_of, outcome_of, RoomTold};
 
-use read_judged::Judged;
+use read_judged::{Fault, RefusalKind};
+use std::fmt;
+
+// The inputs, by their numbers.
+#[derive(Clone, Copy, Debug, PartialEq, Eq)]
+pub enum Input {
+    Profile = 1,
+    Question = 2,
+    TreeOrProof = 3,
+    Answer = 4,
+}
+
+impl Input {
+    pub fn number(self) -> usize
+        ensures { result ≡ input_of self }
+    {
+        self as usize
+    }
+}
 
 // "A refusal returns number, input (1 profile, 2 question, 3 tree or proof, 4 answer buffer) and record number".
-#[derive(Clone, Copy)]
+#[derive(Clone, Copy, Debug, PartialEq, Eq)]
 pub struct Refusal {
-    pub number: usize,
-    pub input: usize,
+    pub kind: RefusalKind,
+    pub input: Input,
     pub place: usize,
 }
 
-pub const PROFILE: usize = 1;
+// As every program prints it: "`refused` with number, input and record".
+impl fmt::Display for Refusal {
+    ghost use Rattle.std.specs.Prelude.{Some};
+    ghost use Rattle.op_answers.specs.Printed.{refusal_text};
 
-pub const QUESTION: usize = 2;
+    ghost output = { λ refusal. Some (refusal_text refusal) };
 
-pub const TREE_OR_PROOF: usize = 3;
-
-pub const ANSWER: usize = 4;
-
-// "read and rewrite a profile": so many bytes are used.
-#[derive(Clone, Copy)]
-pub enum Rewriting {
-    Rewritten(usize),
-    Refused(Refusal),
+    fn fmt<W: fmt::Write>(&self, f: &mut fmt::Formatter<W>) -> fmt::Result {
+        write!(
+            f,
+            "refused {} {} {}",
+            self.kind.number(),
+            self.input.number(),
+            self.place
+        )
+    }
 }
 
-// "test inclusion of two paths".
-#[derive(Clone, Copy)]
-pub enum Inclusion {
-    Included,
-    NotIncluded,
-    Refused(Refusal),
-}
-
-// "the context node, the two target nodes, and for each key path one value-equal pair" (02, request 9): the smaller target first, and of a pair
-// the node below it. So many pairs as there are key paths, in their order; what stands behind them is 0.
-#[derive(Clone, Copy)]
+// "the context node, the two target nodes, and for each key path one value-equal pair": the smaller target first, and of a pair the node below it. So
+// many pairs as there are key paths, in their order; what stands behind them is 0.
+#[derive(Clone, Copy, Debug, PartialEq, Eq)]
 pub struct Witness {
     pub context: usize,
     pub first: usize,
@@ -56,83 +69,58 @@ pub struct Witness {
     pub y3: usize,
 }
 
-// "test whether a tree keeps a key": broken with the first witness.
-#[derive(Clone, Copy)]
-pub enum Keeping {
-    Kept,
-    Broken(Witness),
-    Refused(Refusal),
-}
-
-// "check a proof".
-#[derive(Clone, Copy)]
-pub enum Checking {
-    Accepted,
-    Refused(Refusal),
-}
-
-// "check a counterexample": accepted with the question's first witness; refusal 12 with the number of the lowest broken key and its first witness.
-#[derive(Clone, Copy)]
-pub enum Countering {
-    Accepted(Witness),
+// "check a counterexample", where it is none: 12 with the number of the lowest broken key and the first witness against it, or another refusal.
+#[derive(Clone, Copy, Debug, PartialEq, Eq)]
+pub enum Countered {
     Breaks(usize, Witness),
     Refused(Refusal),
 }
 
-// "list a block of a tree": so many bytes are used.
-#[derive(Clone, Copy)]
-pub enum Listing {
-    Listed(usize),
-    Refused(Refusal),
+impl From<Refusal> for Countered {
+    ghost use Rattle.std.specs.Prelude.{◌≡◌};
+    ghost use Rattle.op_answers.specs.declared.Countered.TheVariants.{Refused};
+
+    ghost from_gives = { λ refusal countered. countered ≡ Refused refusal };
+
+    fn from(refusal: Refusal) -> Countered {
+        Countered::Refused(refusal)
+    }
 }
 
 // "decide a question": so many bytes are used.
-#[derive(Clone, Copy)]
-pub enum Deciding {
+#[derive(Clone, Copy, Debug, PartialEq, Eq)]
+pub enum Decision {
     Implied(usize),
     NotImplied(usize),
-    Refused(Refusal),
-}
-
-// 02's operations that fill an answer buffer: so many bytes are used. Which operation it was is said by its verdict in the contract.
-#[derive(Clone, Copy)]
-pub enum Filling {
-    Filled(usize),
-    Refused(Refusal),
 }
 
 // "every operation that fills an answer buffer ..: it is under 65,536 bytes".
 pub const ANSWER_BYTES: usize = 65536;
 
-pub const SMALL_ANSWER: usize = 14;
-
-// What reading one input comes to, with the input's number.
-#[derive(Clone, Copy)]
-pub enum Outcome {
-    Fine,
-    Refused(Refusal),
-}
-
-pub fn of_input(judged: Judged, input: usize) -> Outcome
-    ensures { result ≡ outcome_of input judged }
+// What was read of one input, a fault as that input's refusal.
+pub fn of_input<T>(read: Result<T, Fault>, input: Input) -> Result<T, Refusal>
+    ensures { result ≡ outcome_of input read }
 {
-    match judged {
-        Judged::Sound => Outcome::Fine,
-        Judged::Refused(number, place) => Outcome::Refused(Refusal {
-            number,
+    match read {
+        Ok(value) => Ok(value),
+        Err(fault) => Err(Refusal {
+            kind: fault.kind,
             input,
-            place,
+            place: fault.place,
         }),
     }
 }
 
-// Refusal 14.
-pub fn small_answer() -> Refusal
-    ensures { meant result ≡ record { number = 14; input = 4; place = 0 } }
+// 14, before all else.
+pub fn has_room(answer: &[u8]) -> Result<(), Refusal>
+    ensures { RoomTold answer.now result }
 {
-    Refusal {
-        number: SMALL_ANSWER,
-        input: ANSWER,
-        place: 0,
+    if answer.len() < ANSWER_BYTES {
+        return Err(Refusal {
+            kind: RefusalKind::SmallAnswer,
+            input: Input::Answer,
+            place: 0,
+        });
     }
+    Ok(())
 }

@@ -10,10 +10,9 @@ use Rattle.theory_campaign.specs.Listings.{list_long, list_short}
 use Rattle.theory_records.specs.Profiles.{accepted_few}
 use Rattle.theory_answers.specs.Refusing.{unless_small, unless_room, unless_passes, unless_sound, unless_refused, first_stops, sound_end}
 use Rattle.op_answers.specs.declared.Refusal.{Refusal}
-use Rattle.op_answers.specs.declared.Outcome.{Outcome}
-use Rattle.op_answers.specs.declared.Outcome.TheVariants as O
 use Rattle.op_answers.specs.Cases.{meant, used_of}
-use Rattle.op_accept.specs.Taken.{ProfileTaken, profile_stops}
+use Rattle.op_accept.specs.Taken.{ProfileStops, profile_stops}
+use Rattle.read_inputs.specs.Accepted.{GivenProfile}
 use Rattle.write_bytes.specs.Wrote.{Wrote, wrote_front}
 
 pub report_small : (list profile : List ℕ) (t : Tally) (buffer : List ℕ) (r : Refusal) → length buffer < 65536
@@ -32,30 +31,26 @@ report_long list profile t buffer r room h e =
     (unless_refused _ buffer _ (record { number = 7; input = 3; place = 0 })
     (first_stops _ _ (λ z. let k : 7 ≡ 0 = sym (ap (λ (x : Table.Refusal). x.number) long) ∙ z in omega arith) ∙ long) (omega arith)))
 
-pub report_keys : {profile classes : List ℕ} {o : Outcome} {second : Bool} {before keys : ℕ} → ProfileTaken profile o classes second before keys → o ≡ O.Fine
-    → keys ≤ 64
-report_keys {profile} taken k =
-    let g = taken.given k in
+pub report_keys : {profile classes : List ℕ} {second : Bool} {before keys : ℕ} → GivenProfile profile second before keys classes → keys ≤ 64
+report_keys {profile} g =
     let f = accepted_few profile g.accepted_profile in
     let e = g.key_count in
     omega arith
 
-module _ (list : List ℕ) {profile classes : List ℕ} {o : Outcome} {second : Bool} {before keys : ℕ} (taken : ProfileTaken profile o classes second before keys)
-    (t : Tally) (buffer : List ℕ) (room : 65536 ≤ length buffer) (few : length (names_in list) ≤ 200) where
-  list_passes : (list_refusal list).number ≡ 0
-  list_passes = ap (λ (x : Table.Refusal). x.number) (list_short list few)
+list_passes : (list : List ℕ) → length (names_in list) ≤ 200 → (list_refusal list).number ≡ 0
+list_passes list few = ap (λ (x : Table.Refusal). x.number) (list_short list few)
 
-  pub report_stops : {r : Refusal} → o ≡ O.Refused r → ReportsTally list profile t buffer (refused_by (meant r) buffer)
+module _ (list : List ℕ) {profile : List ℕ} (t : Tally) (buffer : List ℕ) (room : 65536 ≤ length buffer) (few : length (names_in list) ≤ 200) where
+  pub report_stops : {r : Refusal} → ProfileStops profile r → ReportsTally list profile t buffer (refused_by (meant r) buffer)
   unfolding ReportsTally
-  report_stops k = unless_room _ buffer _ _ room (unless_passes _ _ buffer _ _ list_passes (profile_stops taken _ buffer _ k))
+  report_stops s = unless_room _ buffer _ _ room (unless_passes _ _ buffer _ _ (list_passes list few) (profile_stops _ buffer _ s))
 
-  pub report_fills : o ≡ O.Fine → {after : List ℕ} {used : ℕ} → Wrote buffer after 0 (report_bytes keys (counts_of t)) used
-      → ReportsTally list profile t buffer (used_of reported used after)
+  pub report_fills : {classes : List ℕ} {second : Bool} {before keys : ℕ} → GivenProfile profile second before keys classes → {after : List ℕ} {used : ℕ}
+      → Wrote buffer after 0 (report_bytes keys (counts_of t)) used → ReportsTally list profile t buffer (used_of reported used after)
   unfolding ReportsTally filled
-  report_fills k {after} {used} wrote =
-      let g = taken.given k in
+  report_fills g {after} {used} wrote =
       let w = wrote_front (subst (λ (m : ℕ). Wrote buffer after 0 (report_bytes m (counts_of t)) used) g.key_count wrote) in
       unless_room _ buffer _ _ room
-      (unless_passes _ _ buffer _ _ list_passes
+      (unless_passes _ _ buffer _ _ (list_passes list few)
       (unless_passes _ _ buffer _ _ g.accepted_profile
       (unless_sound [] buffer _ _ sound_end (ap₂ (λ (m : ℕ) (b : List ℕ). used_of reported m b) w.0 w.1))))

@@ -1,6 +1,6 @@
 -- One segment more: what its tree comes to under the profile, said of the tally; one law for each return.
 use Prim.Native.Nat.{ℕ, zero, suc, ◌<◌, ◌≤◌}
-use Rattle.std.specs.Prelude.{◌≡◌, refl, Bool, true, false, List}
+use Rattle.std.specs.Prelude.{◌≡◌, refl, Bool, true, false, Result, Ok, Err, List}
 use Rattle.std.proofs.Common.{sym, ◌∙◌, ap, get_or-set_same, get_or-set_other}
 use Rattle.std.proofs.Math.Path.{subst}
 use Rattle.std.proofs.Math.Option.{some, some-injective}
@@ -11,7 +11,7 @@ use Rattle.meaning.specs.Paths.{Label, Class, class_of}
 use Rattle.meaning.specs.Trees.{Table}
 use Rattle.meaning.specs.Keys.{Key, Breaks, Keeps}
 use Rattle.meaning.specs.Records.{key_in}
-use Rattle.meaning.specs.Refusals.{sound, profile_refusal, tree_refusal}
+use Rattle.meaning.specs.Refusals.{profile_refusal, tree_refusal}
 use Rattle.meaning.specs.Operations.{second_in, labels_in, keys_in, records_from, tree_in, KeepsIn}
 use Rattle.meaning.specs.Campaign.{KeptBy, BrokenBy, RefusedBy, BreaksIn}
 use Rattle.theory_lists.specs.Logic.{found_below}
@@ -21,14 +21,11 @@ use Rattle.meaning.specs.Tally.{Tally, bump, Bumped, counts, stays, KeptAt, Brok
 use Rattle.theory_answers.specs.Refusing.{sound_number, tree_settled, named_refuses, profile_settled}
 use Rattle.theory_records.specs.Profiles.{accepted_labels, accepted_few}
 use Rattle.read_record.specs.Classes.{Tabled, class_by}
-use Rattle.read_judged.specs.Answers.{refusal_of}
-use Rattle.read_judged.specs.declared.Judged.{Judged}
-use Rattle.read_judged.specs.declared.Judged.TheVariants as J
+use Rattle.read_judged.specs.Answers.{refusal_of, number_of}
+use Rattle.read_judged.specs.declared.Fault.{Fault}
 use Rattle.read_inputs.specs.Accepted.{GivenProfile}
 use Rattle.op_answers.specs.declared.Refusal.{Refusal}
-use Rattle.op_answers.specs.declared.Outcome.{Outcome}
-use Rattle.op_answers.specs.declared.Outcome.TheVariants as O
-use Rattle.op_accept.specs.Taken.{ProfileTaken, Tables}
+use Rattle.op_accept.specs.Taken.{ProfileStops, Tables}
 use Rattle.tree_table.specs.FileTable.{file_table, TreeBytes}
 use Rattle.tree_table.specs.Files.{class_same, file_table_lem, tree_bytes}
 use Rattle.op_tree_accepted.specs.BothAccepted.{key_at}
@@ -150,11 +147,11 @@ module _ {profile : List ℕ} {before keys : ℕ} {tree classes : List ℕ} (a :
 
 -- What the reader says of the tree
 module _ {profile : List ℕ} {second : Bool} {before keys : ℕ} {classes : List ℕ} (given : GivenProfile profile second before keys classes) (tree : List ℕ)
-    (judged : Judged) (says : (labels : List Label) → Tabled labels classes → refusal_of 3 judged ≡ tree_refusal second labels tree) where
+    (judged : Result Unit Fault) (says : (labels : List Label) → Tabled labels classes → refusal_of 3 judged ≡ tree_refusal second labels tree) where
   told : refusal_of 3 judged ≡ tree_refusal (second_in profile) (labels_in profile) tree
   told = says (labels_in profile) given.tabled ∙ ap (λ (b : Bool). tree_refusal b (labels_in profile) tree) given.edition
 
-  pub sound_accepted : Tables classes → judged ≡ J.Sound → Accepted profile before keys tree classes
+  pub sound_accepted : {u : Unit} → Tables classes → judged ≡ Ok u → Accepted profile before keys tree classes
   sound_accepted tables e =
       record {
         second = second;
@@ -163,16 +160,16 @@ module _ {profile : List ℕ} {second : Bool} {before keys : ℕ} {classes : Lis
         judged = sound_number (ap (refusal_of 3) (sym e) ∙ told);
       }
 
-  module _ {number place : ℕ} (e : judged ≡ J.Refused number place) where
-    is_refused : record { number = number; input = 3; place = place } ≡ tree_refusal (second_in profile) (labels_in profile) tree
-    is_refused = ap (refusal_of 3) (sym e) ∙ told
+  module _ {number : ℕ} {fault : Fault} (e : judged ≡ Err fault) (said : number ≡ number_of fault.kind) where
+    is_refused : record { number = number; input = 3; place = fault.place } ≡ tree_refusal (second_in profile) (labels_in profile) tree
+    is_refused = ap (λ (n : ℕ). record { number = n; input = 3; place = fault.place }) said ∙ ap (refusal_of 3) (sym e) ∙ told
 
     number_is : (tree_refusal (second_in profile) (labels_in profile) tree).number ≡ number
     number_is = ap (λ x. x.number) (sym is_refused)
 
     number_some : number ≡ 0 → ⊥
     number_some z =
-        named_refuses (record { number = number; input = 3; place = place }) (tree_refusal (second_in profile) (labels_in profile) tree)
+        named_refuses (record { number = number; input = 3; place = fault.place }) (tree_refusal (second_in profile) (labels_in profile) tree)
         (tree_settled (second_in profile) (labels_in profile) tree) is_refused (omega arith) (number_is ∙ z)
 
     pub number_few : number < 20
@@ -217,10 +214,8 @@ module _ {profile : List ℕ} {second : Bool} {before keys : ℕ} {classes : Lis
         go n (no z) = stays (elsewhere n z) (at n ∙ get_or-set_other t.refused number n (bump (get_or t.refused number 0)) 0 z)
 
 -- a refused profile changes nothing
-pub adds_nothing : {profile classes : List ℕ} {o : Outcome} {second : Bool} {before keys : ℕ} → ProfileTaken profile o classes second before keys
-    → {r : Refusal} → o ≡ O.Refused r → (tree : List ℕ) (t : Tally) → Adds profile tree t t
-adds_nothing {profile} taken k tree t =
-    let s = taken.stops k in
+pub adds_nothing : {profile : List ℕ} {r : Refusal} → ProfileStops profile r → (tree : List ℕ) (t : Tally) → Adds profile tree t t
+adds_nothing {profile} s tree t =
     let refuses = named_refuses _ (profile_refusal profile) (profile_settled profile) (sym s.is) s.named in
     record {
       kept = λ n. stays (λ w. refuses w.sound) refl;

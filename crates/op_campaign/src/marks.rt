@@ -2,19 +2,15 @@
 ghost use Rattle.std.specs.Prelude.{◌≤◌};
 ghost use Rattle.tree_table.specs.FileTable.{file_table, class_by};
 ghost use Rattle.tree_rows.specs.Prepared.{Prepared};
-ghost use Rattle.tree_search.specs.Start.{Lent};
 ghost use Rattle.op_tree_keys.specs.ProfileKeys.{KeyBodies};
 ghost use Rattle.op_campaign.specs.Marks.{Marked};
 
 use op_profile::profiles::body_at_front;
 use op_tally::PROFILE_KEYS;
-use read_record::limits::TREE_NODES;
 use read_walker::record_at;
-use tree_pairs::memo::MEMO;
-use tree_rows::hung::HUNG;
-use tree_rows::rows::ROWS;
+use tree_rows::rows::Rows;
 use tree_search::search::broken_key;
-use tree_sorted::sorted::SORTED;
+use tree_search::tables::Tables;
 
 // The part is the profile from its first key on.
 pub fn mark_keys(
@@ -22,23 +18,17 @@ pub fn mark_keys(
     keys: usize,
     tree: &[u8],
     classes: &[u8; 256],
-    rows: &[u16; ROWS],
-    top: &mut [u16; TREE_NODES],
-    hung: &mut [u16; HUNG],
-    sorted: &mut [u16; SORTED],
-    memo: &mut [u16; MEMO],
+    rows: &Rows,
+    tables: &mut Tables,
 ) -> [bool; PROFILE_KEYS]
-    requires { Prepared classes.now tree.now rows.now × KeyBodies part.now keys × (keys ≤ 64) × Lent top.old hung.old sorted.old memo.old }
+    requires { Prepared classes.now tree.now rows.now × KeyBodies part.now keys × (keys ≤ 64) }
     ensures { Marked (class_by classes.now) (file_table tree.now) part.now keys result }
 {
     let mut breaks = [false; PROFILE_KEYS];
-    let mut n = 0;
-    while n < keys {
+    for n in 0..keys {
         let rest = record_at(part, n);
         let body = body_at_front(rest);
-        let found = broken_key(tree, classes, rows, body, top, hung, sorted, memo);
-        breaks[n] = found.found;
-        n += 1;
+        breaks[n] = broken_key(tree, classes, rows, body, tables).is_some();
     }
     breaks
 }

@@ -1,8 +1,8 @@
 // The decider under an accepted profile and an accepted question: u and the steps that lead to it, then the proof where u is t, else the
-// tree (document 01, "implied with a proof .. not implied with a tree").
+// tree: "implied with a proof .. not implied with a tree".
 #![tactic(auto)]
 
-ghost use Rattle.std.specs.Prelude.{◌<◌, ◌≤◌, true, ◌≡◌, length};
+ghost use Rattle.std.specs.Prelude.{◌<◌, ◌≤◌, true, ◌≡◌, Ok, length};
 ghost use Rattle.meaning.specs.Records.{read_key, key_in, is_some};
 ghost use Rattle.read_record.specs.Classes.{class_by};
 ghost use Rattle.op_decider.specs.Upward.{steps_up};
@@ -10,10 +10,10 @@ ghost use Rattle.meaning.specs.Operations.{Decides};
 ghost use Rattle.op_answers.specs.Cases.{deciding_answer};
 ghost use Rattle.read_inputs.specs.Accepted.{Given};
 
-use op_answers::Deciding;
+use op_answers::Decision;
 use op_profile::profiles::body_at_front;
+use read_inputs::profile::Profile;
 use read_record::classes::is_attribute;
-use read_record::fields::wide;
 use read_record::keys::{context, target};
 use step_landings::chain_end;
 use step_search::search::find_steps;
@@ -36,32 +36,26 @@ pub fn steps_up(body: &[u8], u: usize, classes: &[u8; 256], second: bool) -> boo
     if u + 1 != c.len() + x.len() {
         return false;
     }
-    let last = wide(x[x.len() - 1]);
+    let last = usize::from(x[x.len() - 1]);
     is_attribute(classes, last)
 }
 
 // "Implied with bytes used, not implied with bytes used": the steps lead from t to q exactly when u is t, or t steps to it.
 pub fn decide_accepted(
     profile: &[u8],
-    before: usize,
-    keys: usize,
     question: &[u8],
-    classes: &[u8; 256],
-    second: bool,
+    accepted: &Profile,
     answer: &mut [u8],
-) -> Deciding
-    requires { Given profile.now second before keys question.now classes.now × (length classes.now ≡ 256) × (65536 ≤ length answer.old) }
-    ensures { Decides profile.now question.now answer.old (deciding_answer result answer.new) }
+) -> Decision
+    requires { Given profile.now accepted.now.second accepted.now.before accepted.now.keys question.now accepted.now.classes × (length accepted.now.classes ≡ 256) × (65536 ≤ length answer.old) }
+    ensures { Decides profile.now question.now answer.old (deciding_answer (Ok result) answer.new) }
 {
+    let before = accepted.before;
     let body = body_at_front(question);
-    let found = find_steps(profile, before, keys, body);
+    let found = find_steps(profile, before, accepted.keys, body);
     let u = found.u;
-    if u < chain_end(body) {
-        if !steps_up(body, u, classes, second) {
-            return Deciding::NotImplied(write_tree(answer, body, classes, u));
-        }
+    if u < chain_end(body) && !steps_up(body, u, &accepted.classes, accepted.second) {
+        return Decision::NotImplied(write_tree(answer, body, &accepted.classes, u));
     }
-    let steps = found.steps;
-    let count = found.count;
-    Deciding::Implied(write_proof(answer, profile, before, body, u, steps, count))
+    Decision::Implied(write_proof(answer, profile, before, body, u, found.steps, found.count))
 }

@@ -1,5 +1,5 @@
 -- What the readers found, put into the order of refusals, and one law for each return.
-use Rattle.std.specs.Prelude.{ℕ, ◌+◌, ◌-◌, ◌≤◌, ◌<◌, ◌≡◌, refl, Bool, true, false, cond, not, replicate}
+use Rattle.std.specs.Prelude.{ℕ, ◌+◌, ◌-◌, ◌≤◌, ◌<◌, ◌≡◌, refl, Bool, true, false, cond, not, replicate, Result, Ok, Err}
 use Rattle.std.proofs.Common.{sym, ap₂, ◌∙◌, arith}
 use Rattle.std.proofs.Math.Path.{ap, subst}
 use mathlib.Core.List.{List, [], ◌++◌}
@@ -18,18 +18,14 @@ use Rattle.theory_records.specs.KeyPlaces.{KeyRecord, key_at}
 use Rattle.theory_reduce.specs.Numbers.{Listed, listed_take, listed_zeros}
 use Rattle.theory_reduce.specs.Placed.{bytes_records, front_written}
 use Rattle.theory_reduce.specs.LeanProfile.{lean_accepted, lean_edition, lean_labels, lean_keys, dropped_asked}
-use Rattle.theory_reduce.specs.LeanAnswers.{reduces_small, reduces_refused, reduces_filled, proves_small, proves_refused, proves_none, proves_used, never_refused}
+use Rattle.theory_reduce.specs.LeanAnswers.{reduces_small, reduces_refused, reduces_filled, proves_small, proves_refused, proves_none, proves_used}
 use Rattle.read_record.specs.Classes.{Tabled}
 use Rattle.op_answers.specs.declared.Refusal.{Refusal}
-use Rattle.op_answers.specs.declared.Outcome.{Outcome}
-use Rattle.op_answers.specs.declared.Outcome.TheVariants as O
-use Rattle.op_answers.specs.declared.Filling.{Filling}
-use Rattle.op_answers.specs.declared.Filling.TheVariants as F
-use Rattle.op_answers.specs.declared.Deciding.{Deciding}
-use Rattle.op_answers.specs.declared.Deciding.TheVariants as D
-use Rattle.op_answers.specs.Cases.{meant, used_of, deciding_answer, filling_answer}
-use Rattle.op_accept.specs.Taken.{ProfileTaken}
-use Rattle.read_inputs.specs.Accepted.{Given}
+use Rattle.op_answers.specs.declared.Decision.{Decision}
+use Rattle.op_answers.specs.declared.Decision.TheVariants.{Implied, NotImplied}
+use Rattle.op_answers.specs.Cases.{meant, used_of, deciding_answer}
+use Rattle.op_accept.specs.Taken.{ProfileStops}
+use Rattle.read_inputs.specs.Accepted.{GivenProfile, Given}
 use Rattle.write_bytes.specs.Wrote.{wrote_front, wrote_part}
 use Rattle.write_chosen.specs.declared.records.Chosen.{Chosen}
 use Rattle.write_chosen.specs.declared.numbers.Dropped.{Dropped}
@@ -38,60 +34,48 @@ use Rattle.op_lean_keys.specs.Turning.{Reduced}
 use Rattle.op_lean.specs.declared.Lean.{Lean}
 use Rattle.op_lean.specs.Leaned.{Accepted, PutLean, accepted_reduction, accepted_count, accepted_keys_are, accepted_records}
 
--- a refusal drops no key
-abbrev pub none_dropped : Refusal → Lean
-none_dropped r = record { answer = F.Refused r; dropped = replicate 64 0; count = 0 }
-
 -- a proof's bytes
-abbrev pub proof_of : Deciding → Filling
-proof_of (D.Implied used) = F.Filled used
-proof_of (D.NotImplied used) = F.Filled used
-proof_of (D.Refused r) = F.Refused r
+abbrev pub proof_of : Decision → ℕ
+proof_of (Implied used) = used
+proof_of (NotImplied used) = used
 
 first_entry_lem : (one two : List ℕ) → second_in one ≡ second_in two → first_entry one ≡ first_entry two
 unfolding second_in first_entry
 first_entry_lem one two e = ap (λ (b : Bool). cond b 1 0) e
 
--- what an operation that reduces says
-abbrev pub Reducing : (profile buffer after : List ℕ) → Lean → Type 0
-Reducing profile buffer after r =
-    Reduces profile buffer (filling_answer reduced r.answer after) (take r.count r.dropped)
-    × (r.dropped ≡ take r.count r.dropped ++ replicate (64 - r.count) 0)
-    × (r.count ≡ length (take r.count r.dropped))
+-- what an operation that reduces says: the numbers of the dropped keys, and 0 behind them; a refusal drops no key
+abbrev pub Reducing : (profile buffer after : List ℕ) → Result Lean Refusal → Type 0
+Reducing profile buffer after (Ok lean) =
+    Reduces profile buffer (used_of reduced lean.used after) (take lean.count lean.dropped)
+    × (lean.dropped ≡ take lean.count lean.dropped ++ replicate (64 - lean.count) 0)
+    × (lean.count ≡ length (take lean.count lean.dropped))
+Reducing profile buffer after (Err r) = Reduces profile buffer (refused_by (meant r) after) []
 
-module _ (profile buffer : List ℕ) where
-  pub reduce_short : {refusal : Refusal} → meant refusal ≡ record { number = 14; input = 4; place = 0 } → length buffer < 65536 → {r : Lean}
-      → r ≡ none_dropped refusal → Reducing profile buffer buffer r
-  reduce_short e h q =
-      subst (Reducing profile buffer buffer) (sym q)
-      (subst (λ (x : Table.Refusal). Reduces profile buffer (refused_by x buffer) []) (sym e) (reduces_small profile buffer h), refl, refl)
+module _ (profile buffer : List ℕ) (r : Refusal) where
+  pub reduce_short : length buffer < 65536 → meant r ≡ record { number = 14; input = 4; place = 0 } → Reducing profile buffer buffer (Err r)
+  reduce_short h e = subst (λ (x : Table.Refusal). Reduces profile buffer (refused_by x buffer) []) (sym e) (reduces_small profile buffer h)
 
-  pub prove_short : {refusal : Refusal} (n : ℕ) → meant refusal ≡ record { number = 14; input = 4; place = 0 } → length buffer < 65536
-      → ProvesDropped profile n buffer (refused_by (meant refusal) buffer)
-  prove_short n e h = subst (λ (x : Table.Refusal). ProvesDropped profile n buffer (refused_by x buffer)) (sym e) (proves_small profile buffer n h)
+  pub prove_short : (n : ℕ) → length buffer < 65536 → meant r ≡ record { number = 14; input = 4; place = 0 } → ProvesDropped profile n buffer (refused_by (meant r) buffer)
+  prove_short n h e = subst (λ (x : Table.Refusal). ProvesDropped profile n buffer (refused_by x buffer)) (sym e) (proves_small profile buffer n h)
 
-module _ {profile classes : List ℕ} {outcome : Outcome} {second : Bool} {before keys : ℕ} (taken : ProfileTaken profile outcome classes second before keys) where
-  module _ (buffer : List ℕ) (room : 65536 ≤ length buffer) {refusal : Refusal} (k : outcome ≡ O.Refused refusal) where
-    pub reduce_stops : {r : Lean} → r ≡ none_dropped refusal → Reducing profile buffer buffer r
-    reduce_stops q =
-        subst (Reducing profile buffer buffer) (sym q)
-        (reduces_refused profile buffer room (meant refusal) (sym (taken.stops k).is) (taken.stops k).named, refl, refl)
+  pub reduce_stops : 65536 ≤ length buffer → ProfileStops profile r → Reducing profile buffer buffer (Err r)
+  reduce_stops room stops = reduces_refused profile buffer room (meant r) (sym stops.is) stops.named
 
-    pub prove_stops : (n : ℕ) → ProvesDropped profile n buffer (refused_by (meant refusal) buffer)
-    prove_stops n = proves_refused profile buffer n room (meant refusal) (sym (taken.stops k).is) (taken.stops k).named
+  pub prove_stops : (n : ℕ) → 65536 ≤ length buffer → ProfileStops profile r → ProvesDropped profile n buffer (refused_by (meant r) buffer)
+  prove_stops n room stops = proves_refused profile buffer n room (meant r) (sym stops.is) stops.named
 
-  -- what is given further
-  pub found_accepted : outcome ≡ O.Fine → Accepted profile before keys classes second
-  found_accepted fine =
-      let g = taken.given fine in
-      record {
-        sound = g.accepted_profile;
-        edition = g.edition;
-        before_keys = g.before_keys;
-        key_count = g.key_count;
-        tabled = g.tabled;
-        long = taken.size;
-      }
+-- what is given further
+pub found_accepted : {profile classes : List ℕ} {second : Bool} {before keys : ℕ} → GivenProfile profile second before keys classes → length classes ≡ 256
+    → Accepted profile before keys classes second
+found_accepted g size =
+    record {
+      sound = g.accepted_profile;
+      edition = g.edition;
+      before_keys = g.before_keys;
+      key_count = g.key_count;
+      tabled = g.tabled;
+      long = size;
+    }
 
 module _ {profile : List ℕ} {before keys : ℕ} {classes : List ℕ} {second : Bool} (a : Accepted profile before keys classes second)
     (buffer : List ℕ) (room : 65536 ≤ length buffer) {part : List ℕ} (is : part ≡ records_from before profile)
@@ -99,7 +83,7 @@ module _ {profile : List ℕ} {before keys : ℕ} {classes : List ℕ} {second :
   -- the reduced profile
   pub reduce_fills : {after : List ℕ} {chosen : Chosen} → PutLean buffer after profile (take keys stays) chosen → {gone : Dropped}
       → Listed gone.numbers gone.count (dropped_numbers (take keys stays))
-      → Reducing profile buffer after (record { answer = F.Filled chosen.end; dropped = gone.numbers; count = gone.count })
+      → Reducing profile buffer after (Ok (record { used = chosen.end; dropped = gone.numbers; count = gone.count }))
   unfolding filled
   reduce_fills {after} {chosen} p {gone} l =
       let w = wrote_front p.wrote in (
@@ -173,22 +157,20 @@ module _ {profile : List ℕ} {before keys : ℕ} {classes : List ℕ} {second :
                 }))
 
             -- the decider's answer is the proof
-            pub proof_told : (d : Deciding) (after : List ℕ) → Decides (take chosen.end lean) (take size rest) buffer (deciding_answer d after) → {f : Filling}
-                → f ≡ proof_of d → ProvesDropped profile n buffer (filling_answer drop_proved f after)
+            pub proof_told : (d : Decision) (after : List ℕ) → Decides (take chosen.end lean) (take size rest) buffer (deciding_answer (Ok d) after) → {m : ℕ}
+                → m ≡ proof_of d → ProvesDropped profile n buffer (used_of drop_proved m after)
             proof_told d after q e =
-                subst (λ (x : Filling). ProvesDropped profile n buffer (filling_answer drop_proved x after)) (sym e)
+                subst (λ (m : ℕ). ProvesDropped profile n buffer (used_of drop_proved m after)) (sym e)
                 (go d
-                (subst (λ (l : List ℕ). Decides l (key_bytes key) buffer (deciding_answer d after)) lean_is
-                (subst (λ (l : List ℕ). Decides (take chosen.end lean) l buffer (deciding_answer d after)) asked_is q)))
+                (subst (λ (l : List ℕ). Decides l (key_bytes key) buffer (deciding_answer (Ok d) after)) lean_is
+                (subst (λ (l : List ℕ). Decides (take chosen.end lean) l buffer (deciding_answer (Ok d) after)) asked_is q)))
               where
                 used : (v : Verdict) (m : ℕ) → Decides (lean_profile profile (take keys stays)) (key_bytes key) buffer (used_of v m after)
                     → ProvesDropped profile n buffer (used_of drop_proved m after)
                 used v m h =
                     proves_used profile buffer n room a.sound (take keys stays) (accepted_reduction a is r) key stands gone.1 v m after h
 
-                go : (d : Deciding) → Decides (lean_profile profile (take keys stays)) (key_bytes key) buffer (deciding_answer d after)
-                    → ProvesDropped profile n buffer (filling_answer drop_proved (proof_of d) after)
-                go (D.Implied m) h = used implied m h
-                go (D.NotImplied m) h = used not_implied m h
-                go (D.Refused x) h =
-                    absurd (never_refused profile buffer n room a.sound (take keys stays) (accepted_reduction a is r) key stands (meant x) after h)
+                go : (d : Decision) → Decides (lean_profile profile (take keys stays)) (key_bytes key) buffer (deciding_answer (Ok d) after)
+                    → ProvesDropped profile n buffer (used_of drop_proved (proof_of d) after)
+                go (Implied m) h = used implied m h
+                go (NotImplied m) h = used not_implied m h

@@ -1,15 +1,16 @@
 // The two operations under an accepted profile.
-ghost use Rattle.std.specs.Prelude.{◌-◌, ◌≤◌, ◌≡◌, ◌++◌, length, take, replicate};
-ghost use Rattle.meaning.specs.Operations.{reduced, drop_proved};
-ghost use Rattle.meaning.specs.Reduction.{Reduces, ProvesDropped};
-ghost use Rattle.op_answers.specs.Cases.{filling_answer};
+ghost use Rattle.std.specs.Prelude.{◌≡◌, ◌≤◌, length, take, Ok};
+ghost use Rattle.meaning.specs.Operations.{drop_proved};
+ghost use Rattle.meaning.specs.Reduction.{ProvesDropped};
+ghost use Rattle.op_answers.specs.Cases.{used_of};
 ghost use Rattle.op_lean.specs.Leaned.{Cut, PutLean, Accepted};
-ghost use Rattle.op_lean.specs.Returns.{proof_of};
+ghost use Rattle.op_lean.specs.Returns.{Reducing, proof_of};
 
 use crate::Lean;
-use op_answers::{Deciding, Filling};
+use op_answers::Decision;
 use op_decider::decide_accepted;
 use op_lean_keys::reduction;
+use read_inputs::profile::Profile;
 use read_walker::{front_length, record_at};
 use write_bytes::put;
 use write_chosen::numbers::{dropped_numbers, is_dropped};
@@ -34,73 +35,50 @@ fn put_lean(
     put_chosen(out, at, part, keys, stays)
 }
 
-pub fn reduce_accepted(
-    profile: &[u8],
-    before: usize,
-    keys: usize,
-    classes: &[u8; 256],
-    second: bool,
-    answer: &mut [u8],
-) -> Lean
-    requires { Accepted profile.now before keys classes.now second × (65536 ≤ length answer.old) }
-    ensures { Reduces profile.now answer.old (filling_answer reduced result.answer answer.new) (take result.count result.dropped) × (result.dropped ≡ take result.count result.dropped ++ replicate (64 - result.count) 0) × (result.count ≡ length (take result.count result.dropped)) }
+pub fn reduce_accepted(profile: &[u8], accepted: &Profile, answer: &mut [u8]) -> Lean
+    requires { Accepted profile.now accepted.now.before accepted.now.keys accepted.now.classes accepted.now.second × (65536 ≤ length answer.old) }
+    ensures { Reducing profile.now answer.old answer.new (Ok result) }
 {
-    let part = record_at(profile, before);
-    let stays = reduction(part, keys, classes, second);
+    let keys = accepted.keys;
+    let part = record_at(profile, accepted.before);
+    let stays = reduction(part, keys, &accepted.classes, accepted.second);
     let chosen = put_lean(answer, profile, part, keys, stays);
     let gone = dropped_numbers(keys, stays);
-    let used = chosen.end;
     let dropped = gone.numbers;
-    let count = gone.count;
     Lean {
-        answer: Filling::Filled(used),
+        used: chosen.end,
         dropped,
-        count,
+        count: gone.count,
     }
 }
 
 // The decider's bytes, which are a proof: over the reduced profile it has no other answer for a dropped key.
-fn proof_of(decided: Deciding) -> Filling
+fn proof_of(decided: Decision) -> usize
     ensures { result ≡ proof_of decided }
 {
     match decided {
-        Deciding::Implied(used) => Filling::Filled(used),
-        Deciding::NotImplied(used) => Filling::Filled(used),
-        Deciding::Refused(refusal) => Filling::Refused(refusal),
+        Decision::Implied(used) | Decision::NotImplied(used) => used,
     }
 }
 
 // "a proof for each dropped key": decided again against the reduced profile, whose key numbers it cites.
-pub fn prove_accepted(
-    profile: &[u8],
-    before: usize,
-    keys: usize,
-    n: usize,
-    classes: &[u8; 256],
-    second: bool,
-    answer: &mut [u8],
-) -> Filling
-    requires { Accepted profile.now before keys classes.now second × (65536 ≤ length answer.old) }
-    ensures { ProvesDropped profile.now n answer.old (filling_answer drop_proved result answer.new) }
+pub fn prove_accepted(profile: &[u8], accepted: &Profile, n: usize, answer: &mut [u8]) -> usize
+    requires { Accepted profile.now accepted.now.before accepted.now.keys accepted.now.classes accepted.now.second × (65536 ≤ length answer.old) }
+    ensures { ProvesDropped profile.now n answer.old (used_of drop_proved result answer.new) }
 {
-    let part = record_at(profile, before);
-    let stays = reduction(part, keys, classes, second);
+    let keys = accepted.keys;
+    let part = record_at(profile, accepted.before);
+    let stays = reduction(part, keys, &accepted.classes, accepted.second);
     if !is_dropped(keys, stays, n) {
-        return Filling::Filled(0);
+        return 0;
     }
     let mut lean = [0u8; PROFILE_BYTES];
     let chosen = put_lean(&mut lean, profile, part, keys, stays);
-    let end = chosen.end;
-    let count = chosen.count;
     let rest = record_at(part, n);
-    let size = front_length(rest);
-    proof_of(decide_accepted(
-        &lean[..end],
-        before,
-        count,
-        &rest[..size],
-        classes,
-        second,
-        answer,
-    ))
+    let asked = &rest[..front_length(rest)];
+    let left = Profile {
+        keys: chosen.count,
+        ..*accepted
+    };
+    proof_of(decide_accepted(&lean[..chosen.end], asked, &left, answer))
 }

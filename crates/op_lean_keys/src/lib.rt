@@ -59,9 +59,7 @@ pub fn reduction(
     ensures { Reduced part.now keys classes.now second result }
 {
     let mut stays = [true; PROFILE_KEYS];
-    let mut n = keys;
-    while 0 < n {
-        n -= 1;
+    for n in (0..keys).rev() {
         stays[n] = false;
         let implied = key_follows(part, keys, stays, n, classes, second);
         stays[n] = !implied;

@@ -5,27 +5,18 @@ ghost use Rattle.meaning.specs.Operations.{Rewrites, body_at};
 ghost use Rattle.op_answers.specs.Cases.{rewriting_answer};
 
 use op_accept::accept_profile;
-use op_answers::{ANSWER_BYTES, Outcome, Rewriting, small_answer};
+use op_answers::{Refusal, has_room};
 use read_record::fields::{HEAD_BYTES, word};
 use read_walker::record_at;
 use write_bytes::put;
 
 // On acceptance the profile's own bytes stand at the front of the answer buffer and every byte behind them stays; a refusal changes no byte.
-pub fn rewrite(profile: &[u8], answer: &mut [u8]) -> Rewriting
+pub fn rewrite(profile: &[u8], answer: &mut [u8]) -> Result<usize, Refusal>
     ensures { Rewrites profile.now answer.old (rewriting_answer result answer.new) }
 {
-    if answer.len() < ANSWER_BYTES {
-        return Rewriting::Refused(small_answer());
-    }
-    let read = accept_profile(profile);
-    let outcome = read.outcome;
-    match outcome {
-        Outcome::Refused(refusal) => Rewriting::Refused(refusal),
-        Outcome::Fine => {
-            let used = put(answer, 0, profile);
-            Rewriting::Rewritten(used)
-        }
-    }
+    has_room(answer)?;
+    accept_profile(profile)?;
+    Ok(put(answer, 0, profile))
 }
 
 // The body of the record at the front of what is left of a checked profile; nothing where nothing is left.
@@ -49,10 +40,8 @@ pub fn body_at_front(rest: &[u8]) -> &[u8]
 pub fn body(profile: &[u8], n: usize) -> &[u8]
     ensures { result.now ≡ body_at profile.now n }
 {
-    let read = accept_profile(profile);
-    let outcome = read.outcome;
-    match outcome {
-        Outcome::Refused(_) => &profile[..0],
-        Outcome::Fine => body_at_front(record_at(profile, n)),
+    match accept_profile(profile) {
+        Ok(_) => body_at_front(record_at(profile, n)),
+        Err(_) => &profile[..0],
     }
 }

@@ -5,8 +5,8 @@ ghost use Rattle.meaning.specs.Operations.{ChecksProof};
 ghost use Rattle.op_answers.specs.Cases.{checking_answer};
 
 use op_accept::accept_both;
-use op_answers::{Checking, Outcome, Refusal, TREE_OR_PROOF, of_input};
-use read_judged::TOO_LARGE;
+use op_answers::{Input, Refusal, of_input};
+use read_judged::RefusalKind;
 use rule_lines::check::check_lines;
 
 // "proof 65,536 bytes"
@@ -14,29 +14,25 @@ const PROOF_BYTES: usize = 65536;
 
 // "A proof is accepted if each line follows and the last line's key is the question." The profile's refusal comes first, then the question's,
 // then the proof's size, then its lines from the front.
-pub fn check_proof(profile: &[u8], question: &[u8], proof: &[u8]) -> Checking
+pub fn check_proof(profile: &[u8], question: &[u8], proof: &[u8]) -> Result<(), Refusal>
     ensures { ChecksProof profile.now question.now proof.now (checking_answer result) }
 {
-    let read = accept_both(profile, question);
-    let outcome = read.outcome;
-    if let Outcome::Refused(refusal) = outcome {
-        return Checking::Refused(refusal);
-    }
+    let accepted = accept_both(profile, question)?;
     if PROOF_BYTES < proof.len() {
-        return Checking::Refused(Refusal {
-            number: TOO_LARGE,
-            input: TREE_OR_PROOF,
+        return Err(Refusal {
+            kind: RefusalKind::TooLarge,
+            input: Input::TreeOrProof,
             place: 0,
         });
     }
-    let classes = read.classes;
-    let newer = read.second;
-    let before = read.before;
-    let keys = read.keys;
-    let proved = check_lines(profile, before, keys, question, proof, &classes, newer);
-    let third = of_input(proved, TREE_OR_PROOF);
-    match third {
-        Outcome::Refused(refusal) => Checking::Refused(refusal),
-        Outcome::Fine => Checking::Accepted,
-    }
+    let proved = check_lines(
+        profile,
+        accepted.before,
+        accepted.keys,
+        question,
+        proof,
+        &accepted.classes,
+        accepted.second,
+    );
+    of_input(proved, Input::TreeOrProof)
 }

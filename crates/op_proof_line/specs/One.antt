@@ -1,10 +1,10 @@
 -- "Each public operation's contract determines result and final buffer contents for all inputs, refused ones too": the result, not only what it means.
-use Rattle.std.specs.Prelude.{ℕ, ◌≡◌, List}
+use Rattle.std.specs.Prelude.{ℕ, ◌≡◌, Result, List}
 use Rattle.std.proofs.Common.{arith}
 use Rattle.meaning.specs.Operations.{Answer, refused, line_written}
 use Rattle.meaning.specs.ProofText.{WritesProofLine}
 use Rattle.theory_answers.specs.FromProof.{from_unique}
-use Rattle.op_answers.specs.declared.Filling.{Filling}
+use Rattle.op_answers.specs.declared.Refusal.{Refusal}
 use Rattle.op_answers.specs.Cases.{filling_answer}
 use Rattle.op_answers.specs.OneToOne.{filling_one}
 
@@ -13,7 +13,7 @@ pub writes_proof_line_unique : (profile question proof : List ℕ) (n : ℕ) (bu
 unfolding WritesProofLine
 writes_proof_line_unique profile question proof n buffer = from_unique _ _ _ _ _ _
 
-pub write_proof_line_one : (profile question proof : List ℕ) (n : ℕ) (buffer : List ℕ) (a b : Filling) (x y : List ℕ)
+pub write_proof_line_one : (profile question proof : List ℕ) (n : ℕ) (buffer : List ℕ) (a b : Result ℕ Refusal) (x y : List ℕ)
     → WritesProofLine profile question proof n buffer (filling_answer line_written a x)
     → WritesProofLine profile question proof n buffer (filling_answer line_written b y) → (a ≡ b) × (x ≡ y)
 write_proof_line_one profile question proof n buffer a b x y p q =

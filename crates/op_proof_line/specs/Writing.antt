@@ -1,5 +1,5 @@
 -- The writer of a proof line, return by return, over what the code has found there.
-use Rattle.std.specs.Prelude.{ℕ, ◌+◌, ◌-◌, ◌≤◌, ◌<◌, ◌≡◌, refl, Bool, true, cond, length, drop}
+use Rattle.std.specs.Prelude.{ℕ, ◌+◌, ◌-◌, ◌≤◌, ◌<◌, ◌≡◌, Bool, true, cond, Result, Ok, length, drop}
 use Rattle.std.proofs.Common.{sym, ap₂, subst, ◌∙◌, arith}
 use Rattle.std.proofs.Math.Path.{ap}
 use mathlib.Core.List.{List, []}
@@ -9,8 +9,7 @@ use Rattle.meaning.specs.Limits.{in_proof}
 use Rattle.meaning.specs.Paths.{Label}
 use Rattle.meaning.specs.Rules.{Line, line_keys}
 use Rattle.meaning.specs.Records.{record_body, read_line, read_key, key_in, is_some}
-use Rattle.meaning.specs.Refusals as Table
-use Rattle.meaning.specs.Operations.{refused_by, records_from, labels_in, line_written, ChecksProof}
+use Rattle.meaning.specs.Operations.{refused_by, plain, accepted, records_from, labels_in, line_written, ChecksProof}
 use Rattle.meaning.specs.Text.{print_key, typed_of}
 use Rattle.meaning.specs.Trimming.{lines_in}
 use Rattle.meaning.specs.ProofText.{text_of, line_text, WritesProofLine}
@@ -18,10 +17,10 @@ use Rattle.theory_paths.specs.Good.{GoodKey}
 use Rattle.theory_records.specs.Bodies.{records_none, records_add}
 use Rattle.theory_records.specs.Places.{line_place}
 use Rattle.theory_records.specs.Profiles.{LabelsRead, profile_accepts}
-use Rattle.theory_answers.specs.Refusing.{named_refuses, profile_settled}
 use Rattle.theory_text.specs.Sizes.{proof_line_fits}
 use Rattle.theory_trim.specs.TrimmedBytes.{ProofSound, proof_sound, proof_ended}
 use Rattle.read_inputs.specs.Accepted.{GivenProfile}
+use Rattle.read_inputs.specs.declared.profile.Profile.{Profile}
 use Rattle.read_entry.specs.Labels.{labels_at}
 use Rattle.read_entry.specs.Repeats.{Standing}
 use Rattle.read_labels.specs.LabelPart.{LabelPart, part_first, label_part}
@@ -29,11 +28,7 @@ use Rattle.rule_premises.specs.Premises.{LineRecord, line_at, line_none}
 use Rattle.rule_premises.specs.ProofLines.{lines_are}
 use Rattle.rule_lines.specs.Checking.{line_record}
 use Rattle.op_answers.specs.declared.Refusal.{Refusal}
-use Rattle.op_answers.specs.declared.Outcome.{Outcome}
-use Rattle.op_answers.specs.declared.Outcome.TheVariants as O
-use Rattle.op_answers.specs.declared.Checking.{Checking}
-use Rattle.op_answers.specs.declared.Checking.TheVariants as C
-use Rattle.op_answers.specs.Cases.{meant, used_of, checking_answer}
+use Rattle.op_answers.specs.Cases.{meant, used_of}
 use Rattle.op_accept.specs.Taken.{ProfileTaken}
 use Rattle.write_bytes.specs.Wrote.{Wrote, wrote_is, wrote_none}
 use Rattle.op_proof.specs.Taking.{return_small, return_refused, return_filled}
@@ -99,17 +94,12 @@ module _ {profile proof : List ℕ} (p : Proved profile proof) (n : ℕ) where
       key_shape k = subst (λ (b : List ℕ). is_some (read_key b) ≡ true) (sym k) key_record.key.shape
 
 -- the profile of an accepted proof is accepted again
-module _ {profile proof : List ℕ} (p : Proved profile proof) {classes : List ℕ} {outcome : Outcome} {second : Bool} {before keys : ℕ}
-    (taken : ProfileTaken profile outcome classes second before keys) where
-  given : GivenProfile profile second before keys classes
-  given = taken.given (fine outcome refl)
-    where
-      fine : (o : Outcome) → outcome ≡ o → outcome ≡ O.Fine
-      fine O.Fine e = e
-      fine (O.Refused r) e =
-          let s = taken.stops e in
-          absurd (named_refuses (meant r) (Table.profile_refusal profile) (profile_settled profile) (sym s.is) s.named p.sound.sound_profile)
+pub given_again : {profile : List ℕ} (taken : Result Profile Refusal) → ProfileTaken profile taken → {read : Profile} → taken ≡ Ok read
+    → GivenProfile profile read.second read.before read.keys read.classes
+given_again {profile} taken told e = (subst (ProfileTaken profile) e told).0
 
+module _ {profile proof : List ℕ} (p : Proved profile proof) {classes : List ℕ} {second : Bool} {before keys : ℕ}
+    (given : GivenProfile profile second before keys classes) where
   module _ {first : ℕ} (f : first ≡ cond second 1 0) where
     pub given_first : first ≤ before
     given_first = part_first profile given.edition given.before_keys f
@@ -146,21 +136,18 @@ pub write_small : (profile question proof : List ℕ) (n : ℕ) (buffer : List �
 unfolding WritesProofLine
 write_small profile question proof n buffer = return_small line_written profile question proof (line_text profile proof n) buffer
 
-module _ (profile question proof : List ℕ) (n : ℕ) (buffer : List ℕ) (room : 65536 ≤ length buffer) {k : Checking}
-    (checked : ChecksProof profile question proof (checking_answer k)) where
-  -- the check's own refusal
-  pub write_refused : {r : Refusal} → k ≡ C.Refused r → WritesProofLine profile question proof n buffer (refused_by (meant r) buffer)
-  unfolding WritesProofLine
-  write_refused e = return_refused line_written profile question proof (line_text profile proof n) buffer room checked e
+-- the check's own refusal
+pub write_refused : (profile question proof : List ℕ) (n : ℕ) (buffer : List ℕ) (r : Refusal) → ChecksProof profile question proof (refused_by (meant r) [])
+    → 65536 ≤ length buffer → WritesProofLine profile question proof n buffer (refused_by (meant r) buffer)
+unfolding WritesProofLine
+write_refused profile question proof n buffer r checked room =
+    return_refused line_written profile question proof (line_text profile proof n) buffer room r checked
 
-  pub write_filled : k ≡ C.Accepted → {after : List ℕ} {used : ℕ} → Wrote buffer after 0 (line_text profile proof n) used
+module _ (profile question proof : List ℕ) (checked : ChecksProof profile question proof (plain accepted)) where
+  pub write_proved : Proved profile proof
+  write_proved = record { question = question; sound = proof_sound profile question proof checked }
+
+  pub write_filled : (n : ℕ) {buffer after : List ℕ} {used : ℕ} → 65536 ≤ length buffer → Wrote buffer after 0 (line_text profile proof n) used
       → WritesProofLine profile question proof n buffer (used_of line_written used after)
   unfolding WritesProofLine
-  write_filled e wrote = return_filled line_written profile question proof (line_text profile proof n) buffer room checked e wrote
-
-pub write_proved : (profile question proof : List ℕ) {k : Checking} → ChecksProof profile question proof (checking_answer k) → k ≡ C.Accepted → Proved profile proof
-write_proved profile question proof checked e =
-    record {
-      question = question;
-      sound = proof_sound profile question proof (subst (λ (x : Checking). ChecksProof profile question proof (checking_answer x)) e checked);
-    }
+  write_filled n {buffer} room wrote = return_filled line_written profile question proof (line_text profile proof n) buffer room checked wrote

@@ -10,7 +10,7 @@ ghost use Rattle.write_bytes.specs.Wrote.{Wrote};
 ghost use Rattle.op_proof_line.specs.Writing.{Proved};
 
 use op_accept::accept_profile;
-use op_answers::{ANSWER_BYTES, Checking, Filling, small_answer};
+use op_answers::{Refusal, has_room};
 use op_proof::check_proof;
 use read_labels::first::first_entry;
 use read_walker::record_at;
@@ -24,16 +24,14 @@ fn put_key(out: &mut [u8], profile: &[u8], proof: &[u8], n: usize) -> usize
     ensures { Wrote out.old out.new 0 (line_text profile.now proof.now n) result }
 {
     let rest = record_at(proof, n);
-    if rest.len() == 0 {
+    if rest.is_empty() {
         return 0;
     }
-    let read = accept_profile(profile);
-    let second = read.second;
-    let before = read.before;
-    let first = first_entry(second);
+    let accepted = accept_profile(profile).unwrap();
+    let first = first_entry(accepted.second);
     let labels = record_at(profile, first);
     let key = line_key(proof, n);
-    put_line(out, 0, labels, before - first, key)
+    put_line(out, 0, labels, accepted.before - first, key)
 }
 
 // The key at the front of the answer buffer, without a line end. "A proof that is not accepted is refused with the checker's number": by the check
@@ -44,18 +42,10 @@ pub fn write_proof_line(
     proof: &[u8],
     n: usize,
     answer: &mut [u8],
-) -> Filling
+) -> Result<usize, Refusal>
     ensures { WritesProofLine profile.now question.now proof.now n answer.old (filling_answer line_written result answer.new) }
 {
-    if answer.len() < ANSWER_BYTES {
-        return Filling::Refused(small_answer());
-    }
-    let checked = check_proof(profile, question, proof);
-    match checked {
-        Checking::Refused(refusal) => Filling::Refused(refusal),
-        Checking::Accepted => {
-            let used = put_key(answer, profile, proof, n);
-            Filling::Filled(used)
-        }
-    }
+    has_room(answer)?;
+    check_proof(profile, question, proof)?;
+    Ok(put_key(answer, profile, proof, n))
 }

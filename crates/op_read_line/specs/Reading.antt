@@ -1,6 +1,6 @@
 -- One law for each return: what the readers found of profile and line, put into the definition.
-use Rattle.std.specs.Prelude.{ℕ, ◌+◌, ◌-◌, ◌≤◌, ◌<◌, ◌≡◌, Bool, cond, length, take}
-use Rattle.std.proofs.Common.{sym, ◌∙◌, ap₂, subst, arith, length-take-le}
+use Rattle.std.specs.Prelude.{ℕ, ◌-◌, ◌≤◌, ◌<◌, ◌≡◌, Bool, cond, Result, Ok, Err, length, take}
+use Rattle.std.proofs.Common.{sym, ◌∙◌, ap₂, subst, arith}
 use Rattle.std.proofs.Math.Path.{ap}
 use mathlib.Core.List.{List, []}
 use Rattle.meaning.specs.Limits.{in_profile}
@@ -19,13 +19,14 @@ use Rattle.read_inputs.specs.Accepted.{GivenProfile}
 use Rattle.read_entry.specs.Labels.{labels_at}
 use Rattle.read_entry.specs.Repeats.{Standing}
 use Rattle.read_labels.specs.LabelPart.{LabelPart, part_first, label_part}
-use Rattle.read_line.specs.Told.{LineTold, not_line, no_name, is_typed}
+use Rattle.read_line.specs.Told.{LineTold, bytes_used, not_line, no_name, is_typed}
 use Rattle.write_bytes.specs.Wrote.{Wrote, wrote_front}
+use Rattle.read_judged.specs.Answers.{told, some_number}
+use Rattle.read_judged.specs.declared.RefusalKind.{RefusalKind}
 use Rattle.op_answers.specs.declared.Refusal.{Refusal}
-use Rattle.op_answers.specs.declared.Outcome.{Outcome}
-use Rattle.op_answers.specs.declared.Outcome.TheVariants as O
+use Rattle.op_answers.specs.declared.Input.TheVariants as I
 use Rattle.op_answers.specs.Cases.{meant, used_of}
-use Rattle.op_accept.specs.Taken.{ProfileTaken, profile_stops}
+use Rattle.op_accept.specs.Taken.{ProfileStops, profile_stops}
 
 pub small_reads : (profile line buffer : List ℕ) (r : Refusal) → length buffer < 65536 → meant r ≡ record { number = 14; input = 4; place = 0 }
     → ReadsLine profile line buffer (refused_by (meant r) buffer)
@@ -33,69 +34,68 @@ unfolding ReadsLine
 small_reads profile line buffer r h e =
     subst (λ (x : Table.Refusal). ReadsLine profile line buffer (refused_by x buffer)) (sym e) (unless_small _ buffer _ h)
 
-pub read_stops : {profile classes : List ℕ} {o : Outcome} {second : Bool} {before keys : ℕ} → ProfileTaken profile o classes second before keys
-    → {r : Refusal} (line buffer : List ℕ) → 65536 ≤ length buffer → o ≡ O.Refused r → ReadsLine profile line buffer (refused_by (meant r) buffer)
+pub read_stops : {profile : List ℕ} {r : Refusal} → ProfileStops profile r → (line buffer : List ℕ) → 65536 ≤ length buffer
+    → ReadsLine profile line buffer (refused_by (meant r) buffer)
 unfolding ReadsLine
-read_stops taken line buffer h x = unless_room _ buffer _ _ h (profile_stops taken _ buffer _ x)
+read_stops s line buffer h = unless_room _ buffer _ _ h (profile_stops _ buffer _ s)
 
--- an accepted profile, and what was read of it
-pub record LineReady (profile : List ℕ) (second : Bool) (before : ℕ) (classes : List ℕ) : Type 0 where
-  pub keys : ℕ
-  pub given : GivenProfile profile second before keys classes
+-- the line's refusal is that of input 2
+abbrev pub of_line : Result ℕ RefusalKind → Result ℕ Refusal
+of_line (Ok used) = Ok used
+of_line (Err kind) = Err (record { kind = kind; input = I.Question; place = 0 })
 
-pub ready_of : {profile classes : List ℕ} {o : Outcome} {second : Bool} {before keys : ℕ} → ProfileTaken profile o classes second before keys → o ≡ O.Fine
-    → LineReady profile second before classes
-ready_of {keys = keys} taken x = record { keys = keys; given = taken.given x }
+pub record RefusedLine (r : Refusal) (number : ℕ) : Type 0 where
+  pub is : meant r ≡ record { number = number; input = 2; place = 0 }
+  pub some : number ≡ 0 → ⊥
 
-module _ {profile classes : List ℕ} {second : Bool} {before : ℕ} (ready : LineReady profile second before classes) {first : ℕ} (e : first ≡ cond second 1 0) where
+pub line_fault : (read : Result ℕ RefusalKind) {r : Refusal} → Err r ≡ of_line read → RefusedLine r (told read)
+line_fault (Ok used) e = cc
+line_fault (Err kind) {r} e = let s : r ≡ record { kind = kind; input = I.Question; place = 0 } = cc in record { is = ap meant s; some = some_number kind }
+
+pub line_read : (read : Result ℕ RefusalKind) {used : ℕ} → Ok used ≡ of_line read → {labels : List Label} {classes line out : List ℕ}
+    → LineTold labels classes line out (told read) (bytes_used read) → LineTold labels classes line out 0 used
+line_read (Ok n) {used} e {labels} {classes} {line} {out} says = let s : n ≡ used = cc in subst (LineTold labels classes line out 0) s says
+line_read (Err kind) e says = cc
+
+module _ {profile classes : List ℕ} {second : Bool} {before keys : ℕ} (given : GivenProfile profile second before keys classes) {first : ℕ} (e : first ≡ cond second 1 0) where
   pub ready_first : first ≤ before
-  ready_first = part_first profile ready.given.edition ready.given.before_keys e
+  ready_first = part_first profile given.edition given.before_keys e
 
   module _ {labels : List ℕ} (is : labels ≡ records_from first profile) where
     names : LabelPart profile labels (before - first)
-    names = label_part profile ready.given.edition ready.given.before_keys e is
+    names = label_part profile given.edition given.before_keys e is
 
     pub ready_standing : Standing 6 (before - first) labels
     ready_standing = names.stand
 
-    module _ {line record-bytes : List ℕ} {number used : ℕ} (told : LineTold (labels_at (before - first) labels) classes line record-bytes number used) where
+    module _ {line record-bytes : List ℕ} {number used : ℕ} (says : LineTold (labels_at (before - first) labels) classes line record-bytes number used) where
       in_profile_lem : LineTold (labels_in profile) classes line record-bytes number used
-      in_profile_lem = subst (λ (ls : List Label). LineTold ls classes line record-bytes number used) names.are told
+      in_profile_lem = subst (λ (ls : List Label). LineTold ls classes line record-bytes number used) names.are says
 
       tests : (key : Key) → ByteKey key → key_tests_by classes in_profile key ≡ key_tests (labels_in profile) in_profile key
-      tests key k = tests_tabled ready.given.tabled in_profile key k
-
-      pub told_size : number ≡ 0 → used ≤ length record-bytes
-      told_size z = go told
-        where
-          go : LineTold (labels_at (before - first) labels) classes line record-bytes number used → used ≤ length record-bytes
-          go (not_line n r) = absurd (omega arith)
-          go (no_name k n r t) = absurd (omega arith)
-          go (is_typed k key r t bytes n w) = (w z).1
-
-      pub told_room : number ≡ 0 → length record-bytes ≡ 59 → (buffer : List ℕ) → 65536 ≤ length buffer → 0 + length (take used record-bytes) ≤ length buffer
-      told_room z size buffer room = let h = told_size z in let l = length-take-le used record-bytes h in omega arith
+      tests key k = tests_tabled given.tabled in_profile key k
 
       module _ (buffer : List ℕ) (room : 65536 ≤ length buffer) where
         judged : (a : Answer) → TextJudged (labels_in profile) line buffer a → ReadsLine profile line buffer a
         unfolding ReadsLine
         judged a j =
             unless_room _ buffer _ a room
-            (unless_sound _ buffer _ a (sound_more _ [] ready.given.accepted_profile sound_end) j)
+            (unless_sound _ buffer _ a (sound_more _ [] given.accepted_profile sound_end) j)
 
         -- 17, 18, or the key's number
-        pub line_refused : (number ≡ 0 → ⊥) → ReadsLine profile line buffer (refused_by (record { number = number; input = 2; place = 0 }) buffer)
-        line_refused n = judged _ (go in_profile_lem)
+        pub line_refused : {r : Refusal} → RefusedLine r number → ReadsLine profile line buffer (refused_by (meant r) buffer)
+        line_refused {r} refused_line =
+            subst (λ (x : Table.Refusal). ReadsLine profile line buffer (refused_by x buffer)) (sym refused_line.is) (judged (by number) (go in_profile_lem))
           where
             by : ℕ → Answer
             by m = refused_by (record { number = m; input = 2; place = 0 }) buffer
 
-            go : LineTold (labels_in profile) classes line record-bytes number used → TextJudged (labels_in profile) line buffer (refused_by (record { number = number; input = 2; place = 0 }) buffer)
+            go : LineTold (labels_in profile) classes line record-bytes number used → TextJudged (labels_in profile) line buffer (by number)
             go (not_line e r) = not_a_line (none_line line r) (ap by e)
             go (no_name k e r t) = unknown_name k (print_read line k r) t (ap by e)
             go (is_typed k key r t bytes e w) =
                 let f : number ≡ first_of (key_tests (labels_in profile) in_profile key) = e ∙ ap first_of (tests key bytes) in
-                bad_key k (print_read line k r) key t (λ z. n (f ∙ z)) (ap by f)
+                bad_key k (print_read line k r) key t (λ z. refused_line.some (f ∙ z)) (ap by f)
 
         pub line_filled : number ≡ 0 → {after : List ℕ} {end : ℕ} → Wrote buffer after 0 (take used record-bytes) end
             → ReadsLine profile line buffer (used_of key_read end after)

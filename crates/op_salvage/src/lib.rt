@@ -1,4 +1,4 @@
-// Salvage of a damaged tree file: document 02, request 7.
+// Salvage of a damaged tree file.
 #![tactic(auto)]
 
 pub mod salvage;

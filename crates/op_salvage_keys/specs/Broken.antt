@@ -1,5 +1,5 @@
 -- The lines of the keys that a tree breaks, one key after the other.
-use Rattle.std.specs.Prelude.{ℕ, zero, suc, ◌+◌, ◌*◌, ◌≤◌, ◌≡◌, refl, List, [], ◌∷◌, ◌++◌, length}
+use Rattle.std.specs.Prelude.{ℕ, zero, suc, ◌+◌, ◌*◌, ◌≤◌, ◌≡◌, refl, Option, None, Some, List, [], ◌∷◌, ◌++◌, length}
 use Rattle.std.proofs.Common.{sym, ◌∙◌, subst, append_assoc, append-nil, arith, add-one, length-append}
 use Rattle.std.proofs.Math.Path.{ap}
 use Rattle.meaning.specs.Paths.{Class}
@@ -11,15 +11,13 @@ use Rattle.meaning.specs.Salvage.{BrokenLines, judged_all, keeps_one, breaks_one
 use Rattle.op_answers.specs.declared.Witness.{Witness}
 use Rattle.op_answers.specs.Cases.{numbers_of}
 use Rattle.tree_sorted.specs.GoodKey.{GoodKey}
-use Rattle.op_tree_keys.specs.declared.Tested.{Tested}
-use Rattle.op_tree_keys.specs.declared.Tested.TheVariants as T
 use Rattle.op_tree_keys.specs.ProfileKeys.{KeyTested, key_body_at}
 use Rattle.write_salvage.specs.Blocks.{Window, Puts, puts_nothing}
 
 -- the line of key n: none where it is kept
-unfoldable pub tested_lines : ℕ → Tested → List (List ℕ)
-tested_lines n T.Kept = []
-tested_lines n (T.Broken w) = broken_line n (numbers_of w) ∷ []
+unfoldable pub tested_lines : ℕ → Option Witness → List (List ℕ)
+tested_lines n None = []
+tested_lines n (Some w) = broken_line n (numbers_of w) ∷ []
 
 -- the first n keys, where the profile's keys begin
 unfoldable pub keys_to : List ℕ → ℕ → List Key
@@ -34,20 +32,20 @@ keys_count part (suc n) =
     let ih = keys_count part n in
     omega arith
 
-lines_few : (n : ℕ) (tested : Tested) → length (tested_lines n tested) ≤ 1
+lines_few : (n : ℕ) (tested : Option Witness) → length (tested_lines n tested) ≤ 1
 unfolding tested_lines
-lines_few n T.Kept = omega arith
-lines_few n (T.Broken w) = omega arith
+lines_few n None = omega arith
+lines_few n (Some w) = omega arith
 
 -- one key more
-broken_more : {κ : ℕ → Class} {t : Table} (m : ℕ) {keys : List Key} {lines : List (List ℕ)} → BrokenLines κ t m keys lines → (key : Key) (tested : Tested)
+broken_more : {κ : ℕ → Class} {t : Table} (m : ℕ) {keys : List Key} {lines : List (List ℕ)} → BrokenLines κ t m keys lines → (key : Key) (tested : Option Witness)
     → KeyTested κ t key tested → BrokenLines κ t m (keys ++ (key ∷ [])) (lines ++ tested_lines (m + length keys) tested)
-unfolding KeyTested Keeps tested_lines
+unfolding Keeps tested_lines
 broken_more {κ} {t} m judged_all key tested k = go tested k
   where
-    go : (tested : Tested) → KeyTested κ t key tested → BrokenLines κ t m (key ∷ []) (tested_lines (m + 0) tested)
-    go T.Kept h = keeps_one h judged_all
-    go (T.Broken w) h =
+    go : (tested : Option Witness) → KeyTested κ t key tested → BrokenLines κ t m (key ∷ []) (tested_lines (m + 0) tested)
+    go None h = keeps_one h judged_all
+    go (Some w) h =
         let e : m ≡ m + 0 = omega arith in
         subst (λ (n : ℕ). BrokenLines κ t m (key ∷ []) (broken_line n (numbers_of w) ∷ [])) e (breaks_one (numbers_of w) h.first judged_all)
 broken_more {κ} {t} m (keeps_one {key = first} {keys} {lines} h p) key tested k =
@@ -81,7 +79,7 @@ told_none κ t part out start at count =
     }
 
 pub told_more : {κ : ℕ → Class} {t : Table} {part out₀ mid end : List ℕ} {start at₀ count₀ at count next count' : ℕ} (n : ℕ)
-    → KeysTold κ t part n out₀ mid start at₀ count₀ at count → (tested : Tested) → KeyTested κ t (key_in (key_body_at part n)) tested
+    → KeysTold κ t part n out₀ mid start at₀ count₀ at count → (tested : Option Witness) → KeyTested κ t (key_in (key_body_at part n)) tested
     → Puts mid end start at count (tested_lines n tested) next count' 217 → KeysTold κ t part (n + 1) out₀ end start at₀ count₀ next count'
 unfolding keys_to
 told_more {κ} {t} {part} {out₀} {mid} {end} {start} {at₀} {count₀} {at} {count} {next} {count'} n s tested k p =
@@ -109,16 +107,16 @@ told_more {κ} {t} {part} {out₀} {mid} {end} {start} {at₀} {count₀} {at} {
       few = omega arith;
     }
 
-pub tested_none : (mid : List ℕ) (start at count n : ℕ) {tested : Tested} → tested ≡ T.Kept → Puts mid mid start at count (tested_lines n tested) at count 217
+pub tested_none : (mid : List ℕ) (start at count n : ℕ) {tested : Option Witness} → tested ≡ None → Puts mid mid start at count (tested_lines n tested) at count 217
 unfolding tested_lines
 tested_none mid start at count n e =
-    subst (λ (x : Tested). Puts mid mid start at count (tested_lines n x) at count 217) (sym e) (puts_nothing mid start at count 217)
+    subst (λ (x : Option Witness). Puts mid mid start at count (tested_lines n x) at count 217) (sym e) (puts_nothing mid start at count 217)
 
-pub tested_one : {mid end : List ℕ} {at next count' : ℕ} (start count n : ℕ) {tested : Tested} {w : Witness} → tested ≡ T.Broken w
+pub tested_one : {mid end : List ℕ} {at next count' : ℕ} (start count n : ℕ) {tested : Option Witness} {w : Witness} → tested ≡ Some w
     → Puts mid end start at count (broken_line n (numbers_of w) ∷ []) next count' 217 → Puts mid end start at count (tested_lines n tested) next count' 217
 unfolding tested_lines
 tested_one {mid} {end} {at} {next} {count'} start count n e p =
-    subst (λ (x : Tested). Puts mid end start at count (tested_lines n x) next count' 217) (sym e) p
+    subst (λ (x : Option Witness). Puts mid end start at count (tested_lines n x) next count' 217) (sym e) p
 
 -- a key by its body in the profile
 module _ (part : List ℕ) (n : ℕ) {rest body : List ℕ} (is_rest : rest ≡ records_from n part) (is_body : body ≡ record_body rest) where
@@ -129,7 +127,7 @@ module _ (part : List ℕ) (n : ℕ) {rest body : List ℕ} (is_rest : rest ≡ 
   pub key_good : GoodKey (key_body_at part n) → GoodKey body
   key_good g = subst GoodKey (sym body_is) g
 
-  pub key_judged : (κ : ℕ → Class) (t : Table) (tested : Tested) → KeyTested κ t (key_in body) tested → KeyTested κ t (key_in (key_body_at part n)) tested
+  pub key_judged : (κ : ℕ → Class) (t : Table) (tested : Option Witness) → KeyTested κ t (key_in body) tested → KeyTested κ t (key_in (key_body_at part n)) tested
   key_judged κ t tested k = subst (λ (b : List ℕ). KeyTested κ t (key_in b) tested) body_is k
 
 -- all keys

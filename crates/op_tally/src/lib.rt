@@ -1,4 +1,4 @@
-// The state of a campaign (document 02, request 12), by value: a count for each key number and for each refusal number, and of the unreadable names.
+// The state of a campaign, by value: a count for each key number and for each refusal number, and of the unreadable names.
 // A count stops at what two bytes hold, so that nothing is asked of a tally; the 200 inputs of a campaign stay far below.
 #![tactic(auto)]
 
@@ -11,9 +11,8 @@ pub const PROFILE_KEYS: usize = 64;
 // Refusal numbers are 1 to 19.
 pub const NUMBERS: usize = 20;
 
-const MOST: u16 = 65535;
-
-#[derive(Clone, Copy)]
+// Stays: two lists of counts beside each other, because the tally of `meaning` has them so, and `tally_of` takes each as it is.
+#[derive(Clone, Copy, Debug, PartialEq, Eq)]
 pub struct Tally {
     pub kept: [u16; PROFILE_KEYS],
     pub broken: [u16; PROFILE_KEYS],
@@ -36,25 +35,16 @@ pub fn no_counts() -> Tally
 fn one_more(n: u16) -> u16
     ensures { result ≡ bump n }
 {
-    if n < MOST {
-        return n + 1;
-    }
-    n
+    n.saturating_add(1)
 }
 
 // "`unread` and the count of unreadable names"
 pub fn count_unread(t: Tally) -> Tally
     ensures { AddsUnread (tally_of t) (tally_of result) }
 {
-    let kept = t.kept;
-    let broken = t.broken;
-    let refused = t.refused;
-    let unread = one_more(t.unread);
     Tally {
-        kept,
-        broken,
-        refused,
-        unread,
+        unread: one_more(t.unread),
+        ..t
     }
 }
 
@@ -63,16 +53,9 @@ pub fn count_refused(t: Tally, number: usize) -> Tally
     requires { number < 20 }
     ensures { RefusedMore (tally_of t) number (tally_of result) }
 {
-    let kept = t.kept;
-    let broken = t.broken;
-    let mut refused = t.refused;
-    refused[number] = one_more(refused[number]);
-    Tally {
-        kept,
-        broken,
-        refused,
-        unread: t.unread,
-    }
+    let mut tally = t;
+    tally.refused[number] = one_more(t.refused[number]);
+    tally
 }
 
 // "the number of segments that keep it, that break it"
@@ -80,20 +63,13 @@ fn count_key(t: Tally, n: usize, breaks: bool) -> Tally
     requires { n < 64 }
     ensures { KeyMore (tally_of t) n breaks (tally_of result) }
 {
-    let mut kept = t.kept;
-    let mut broken = t.broken;
-    let refused = t.refused;
+    let mut tally = t;
     if breaks {
-        broken[n] = one_more(broken[n]);
+        tally.broken[n] = one_more(t.broken[n]);
     } else {
-        kept[n] = one_more(kept[n]);
+        tally.kept[n] = one_more(t.kept[n]);
     }
-    Tally {
-        kept,
-        broken,
-        refused,
-        unread: t.unread,
-    }
+    tally
 }
 
 // Of each key whether the segment breaks it.
@@ -102,10 +78,8 @@ pub fn count_keys(t: Tally, keys: usize, breaks: [bool; PROFILE_KEYS]) -> Tally
     ensures { KeysMore (tally_of t) keys breaks (tally_of result) }
 {
     let mut tally = t;
-    let mut n = 0;
-    while n < keys {
+    for n in 0..keys {
         tally = count_key(tally, n, breaks[n]);
-        n += 1;
     }
     tally
 }

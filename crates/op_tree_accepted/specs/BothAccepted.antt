@@ -1,6 +1,6 @@
 -- What the search finds over an accepted question and an accepted tree, said of the operations: one law for each return.
 use Prim.Native.Nat.{ℕ, zero, suc, ◌+◌, ◌≤◌, ◌<◌}
-use Rattle.std.specs.Prelude.{◌≡◌, refl, Bool, length, take, get_or}
+use Rattle.std.specs.Prelude.{◌≡◌, refl, Bool, Option, Some, None, Result, Ok, Err, ok_or, length, take, get_or}
 use Rattle.std.proofs.Math.Path.{sym, ap, subst}
 use Rattle.std.proofs.Common.{◌∙◌, inl, inr, arith}
 use mathlib.Core.List.{List, [], ◌∷◌}
@@ -16,7 +16,7 @@ use Rattle.meaning.specs.Keys.{Key, Breaks, Keeps, FirstWitness}
 use Rattle.meaning.specs.Records.{record_body, record_kind, key_in}
 use Rattle.meaning.specs.Refusals.{first_entry, nodes_in, question_in}
 use Rattle.meaning.specs.Refusals
-use Rattle.meaning.specs.Operations.{tree_refusals, TestsTree, ChecksCounterexample, refused_by, plain, shown, broken_by, kept, broken, accepted, second_in, labels_in, keys_in, records_from, tree_in, KeepsIn, FirstIn}
+use Rattle.meaning.specs.Operations.{tree_refusals, TestsTree, ChecksCounterexample, refused_by, broken_by, second_in, labels_in, keys_in, records_from, tree_in, KeepsIn, FirstIn}
 use Rattle.meaning.specs.Operations.CounterexampleJudged.{breaks_key, keeps_question, refutes}
 use Rattle.read_record.specs.Classes.{Tabled, class_by}
 use Rattle.theory_lists.specs.Bools.{each_every}
@@ -30,33 +30,45 @@ use Rattle.theory_records.specs.Profiles.{accepted_labels}
 use Rattle.theory_records.specs.Places.{KeyPlace, key_place}
 use Rattle.theory_records.specs.Questions.{question_accepts}
 use Rattle.tree_table.specs.Files.{class_same, file_table_lem, tree_bytes}
-use Rattle.op_answers.specs.declared.Outcome.{Outcome}
-use Rattle.op_answers.specs.declared.Outcome.TheVariants as O
 use Rattle.op_answers.specs.declared.Refusal.{Refusal}
 use Rattle.op_answers.specs.declared.Witness.{Witness}
-use Rattle.op_answers.specs.declared.Keeping.TheVariants as K
-use Rattle.op_answers.specs.declared.Countering.TheVariants as N
-use Rattle.op_answers.specs.Cases.{meant, numbers_of, Padded, KeepingPadded, CounteringPadded}
+use Rattle.op_answers.specs.declared.Countered.{Countered}
+use Rattle.op_answers.specs.declared.Countered.TheVariants as N
+use Rattle.op_answers.specs.Cases.{meant, numbers_of, keeping_answer, countering_answer, Padded, KeepingPadded, CounteringPadded}
 use Rattle.read_inputs.specs.Accepted.{GivenProfile}
 use Rattle.tree_table.specs.FileTable.{file_table, TreeBytes}
 use Rattle.tree_sorted.specs.GoodKey.{GoodKey}
-use Rattle.op_accept.specs.Taken.{ProfileTaken, AcceptedIn, Tables, ready_in, profile_stops}
+use Rattle.tree_rows.specs.declared.hung.Hung as lists
+use Rattle.op_accept.specs.Taken.{ProfileStops, AcceptedIn, Tables, ready_in, profile_stops}
 use Rattle.op_tree_inputs.specs.Inputs.{Passes, BothSay, none_refuses, both_refuse}
-use Rattle.op_tree_keys.specs.declared.Tested.{Tested}
-use Rattle.op_tree_keys.specs.declared.Tested.TheVariants as T
 use Rattle.tree_witness.specs.Pairs.{FirstShown}
-use Rattle.op_tree_keys.specs.ProfileKeys.{key_body_at, KeyBodies, KeyTested, tested_broken, tested_kept, LowestBroken}
+use Rattle.op_tree_keys.specs.ProfileKeys.{key_body_at, KeyBodies, KeyTested, KeptBelow, LowestAt}
+
+-- nothing stands behind the numbers of a witness that is answered
+pub padded_none : {r : Refusal} → KeepingPadded (Err r)
+padded_none = record { padded = λ w e. cc }
+
+pub padded_asked : (κ : ℕ → Class) (t : Table) (key : Key) (found : Option Witness) → KeyTested κ t key found → KeepingPadded (Ok found)
+padded_asked κ t key None keeps = record { padded = λ w e. cc }
+padded_asked κ t key (Some w) shows = record { padded = λ v e. let same : w ≡ v = cc in subst Padded same shows.padded }
+
+pub padded_refused : {r : Refusal} → CounteringPadded (Err (N.Refused r))
+padded_refused = record { accepts = λ w e. cc; breaks = λ n w e. cc }
+
+pub padded_breaks : {κ : ℕ → Class} {t : Table} {key : Key} {n : ℕ} {w : Witness} → FirstShown κ t key w → CounteringPadded (Err (N.Breaks n w))
+padded_breaks {w = w} shown = record { accepts = λ v e. cc; breaks = λ m v e. let same : w ≡ v = cc in subst Padded same shown.padded }
+
+pub padded_accepts : {κ : ℕ → Class} {t : Table} {key : Key} {w : Witness} → FirstShown κ t key w → CounteringPadded (Ok w)
+padded_accepts {w = w} shown = record { accepts = λ v e. let same : w ≡ v = cc in subst Padded same shown.padded; breaks = λ m v e. cc }
 
 -- An accepted question and an accepted tree under a class table
 pub record BothAccepted (second : Bool) (question tree classes : List ℕ) : Type 0 where
   pub tables : Tables classes
   pub passes : (labels : List Label) → Tabled labels classes → Passes second labels question tree
 
-pub both_accepted : {second : Bool} {question tree classes : List ℕ} → Tables classes → {o : Outcome} → BothSay second question tree classes o → o ≡ O.Fine
+pub both_accepted : {second : Bool} {question tree classes : List ℕ} → Tables classes → {u : Unit} → BothSay second question tree classes (Ok u)
     → BothAccepted second question tree classes
-unfolding BothSay
-both_accepted {second} {question} {tree} {classes} tables says k =
-    record { tables = tables; passes = subst (BothSay second question tree classes) k says }
+both_accepted tables says = record { tables = tables; passes = says }
 
 -- a key record that was accepted has the body of a key
 key_body : (labels : List Label) (l : List ℕ) → Whole l → record_kind l ≡ 2 → Good.GoodKey labels in_profile (key_in (record_body l))
@@ -110,30 +122,25 @@ module _ {second : Bool} {question tree classes : List ℕ} (asked : BothAccepte
         (subst (λ (κ : ℕ → Class). Breaks κ (file_table tree) key) (sym same_class)
         (subst (λ (t : Table). Breaks (class_of (labels_in profile)) t key) (sym same_table) w))
 
-    module _ {body : List ℕ} (is_body : body ≡ record_body question) {r : Tested}
-        (tested : KeyTested (class_by classes) (file_table tree) (key_in body) r) where
-      first_of_question : {w : Witness} → r ≡ T.Broken w → FirstIn profile tree (question_in question) (numbers_of w)
+    module _ {body : List ℕ} (is_body : body ≡ record_body question) where
+      first_of_question : {w : Witness} → FirstShown (class_by classes) (file_table tree) (key_in body) w → FirstIn profile tree (question_in question) (numbers_of w)
       unfolding question_in
-      first_of_question {w} e =
-          subst (λ (b : List ℕ). FirstIn profile tree (key_in b) (numbers_of w)) is_body (first_in (key_in body) (tested_broken tested e).first)
+      first_of_question {w} shows =
+          subst (λ (b : List ℕ). FirstIn profile tree (key_in b) (numbers_of w)) is_body (first_in (key_in body) shows.first)
 
-      keeps_question_lem : r ≡ T.Kept → KeepsIn profile tree (question_in question)
+      keeps_question_lem : (Breaks (class_by classes) (file_table tree) (key_in body) → ⊥) → KeepsIn profile tree (question_in question)
       unfolding question_in
-      keeps_question_lem e = subst (λ (b : List ℕ). KeepsIn profile tree (key_in b)) is_body (keeps_in (key_in body) (tested_kept tested e))
+      keeps_question_lem keeps = subst (λ (b : List ℕ). KeepsIn profile tree (key_in b)) is_body (keeps_in (key_in body) keeps)
 
-pub tests_broken : {second : Bool} {question tree classes : List ℕ} → BothAccepted second question tree classes → {body : List ℕ} → body ≡ record_body question → {r : Tested}
-    → KeyTested (class_by classes) (file_table tree) (key_in body) r → {w : Witness} → r ≡ T.Broken w → (profile : List ℕ) → AcceptedIn profile classes second
-    → TestsTree profile question tree (shown broken (numbers_of w))
+-- what the test of the question says of the tree
+pub tests_asked : {second : Bool} {question tree classes : List ℕ} → BothAccepted second question tree classes → {body : List ℕ} → body ≡ record_body question
+    → (found : Option Witness) → KeyTested (class_by classes) (file_table tree) (key_in body) found → (profile : List ℕ) → AcceptedIn profile classes second
+    → TestsTree profile question tree (keeping_answer (Ok found))
 unfolding TestsTree
-tests_broken asked b d {w} e profile ready =
-    unless_sound _ [] _ _ (none_refuses _ _ ready (here asked ready)) (inr (numbers_of w, first_of_question asked ready b d e, refl))
-
-pub tests_kept : {second : Bool} {question tree classes : List ℕ} → BothAccepted second question tree classes → {body : List ℕ} → body ≡ record_body question → {r : Tested}
-    → KeyTested (class_by classes) (file_table tree) (key_in body) r → r ≡ T.Kept → (profile : List ℕ) → AcceptedIn profile classes second
-    → TestsTree profile question tree (plain kept)
-unfolding TestsTree
-tests_kept asked b d e profile ready =
-    unless_sound _ [] _ _ (none_refuses _ _ ready (here asked ready)) (inl (keeps_question_lem asked ready b d e, refl))
+tests_asked asked b None keeps profile ready =
+    unless_sound _ [] _ _ (none_refuses _ _ ready (here asked ready)) (inl (keeps_question_lem asked ready b keeps, refl))
+tests_asked asked b (Some w) shows profile ready =
+    unless_sound _ [] _ _ (none_refuses _ _ ready (here asked ready)) (inr (numbers_of w, first_of_question asked ready b shows, refl))
 
 -- what holds of the keys below n, one by one
 each_front : {A : Type 0} {Q : A → Type 0} (n : ℕ) (xs : List A) → ((i : ℕ) (x : A) → i < n → get_elem? xs i ≡ some x → Q x) → Each Q (take n xs)
@@ -162,90 +169,64 @@ module _ {profile classes : List ℕ} {second : Bool} {labels keys : ℕ} (count
   pub key_at : (n : ℕ) → n < keys → get_elem? (keys_in profile) n ≡ some (key_in (key_body_at part n))
   key_at n h = (place n h).is ∙ ap (λ (b : List ℕ). some (key_in b)) (sym (body_place n))
 
-  module _ {question tree : List ℕ} (asked : BothAccepted second question tree classes) {hung : List ℕ} {r q a b : ℕ}
-      (lowest : LowestBroken (class_by classes) (file_table tree) part keys hung r q a b) where
-    front_kept : Each (KeepsIn profile tree) (take r (keys_in profile))
-    front_kept =
+  module _ {question tree : List ℕ} (asked : BothAccepted second question tree classes) where
+    front_kept : {r : ℕ} → r ≤ keys → KeptBelow (class_by classes) (file_table tree) part r → Each (KeepsIn profile tree) (take r (keys_in profile))
+    front_kept {r} within below =
         each_front r (keys_in profile)
         (λ i key l e.
         subst (KeepsIn profile tree)
-        (some-injective (key_in (key_body_at part i)) key (sym (key_at i (let w = lowest.within in omega arith)) ∙ e))
-        (keeps_in asked (ready_in counted) (key_in (key_body_at part i)) (lowest.below.each i l)))
+        (some-injective (key_in (key_body_at part i)) key (sym (key_at i (omega arith)) ∙ e))
+        (keeps_in asked (ready_in counted) (key_in (key_body_at part i)) (below.each i l)))
 
-    all_kept : keys ≤ r → Each (KeepsIn profile tree) (keys_in profile)
-    all_kept h =
-        let w = lowest.within in
-        let c = counted.key_count in
-        let e : r ≡ length (keys_in profile) = omega arith in
-        subst (Each (KeepsIn profile tree)) (ap (λ (n : ℕ). take n (keys_in profile)) e ∙ take-length (keys_in profile)) front_kept
+    all_kept : KeptBelow (class_by classes) (file_table tree) part keys → Each (KeepsIn profile tree) (keys_in profile)
+    all_kept below =
+        subst (Each (KeepsIn profile tree)) (ap (λ (n : ℕ). take n (keys_in profile)) counted.key_count ∙ take-length (keys_in profile))
+        (front_kept (omega arith) below)
 
-    pub breaks_key_lem : r < keys → (w : Witness) → FirstShown (class_by classes) (file_table tree) (key_in (key_body_at part r)) w
-        → ChecksCounterexample profile question tree (broken_by r (numbers_of w))
+    -- 12, with the lowest broken key and its witness
+    pub breaks_key_lem : {hung : List lists.Hung} {r q a b : ℕ} → LowestAt (class_by classes) (file_table tree) part keys hung r q a b → (w : Witness)
+        → FirstShown (class_by classes) (file_table tree) (key_in (key_body_at part r)) w → ChecksCounterexample profile question tree (broken_by r (numbers_of w))
     unfolding ChecksCounterexample
-    breaks_key_lem h w first =
+    breaks_key_lem {r = r} lowest w first =
+        let h = lowest.within in
         unless_sound _ [] _ _ (none_refuses _ _ (ready_in counted) (here asked (ready_in counted)))
-        (breaks_key r (key_in (key_body_at part r)) (key_at r h) front_kept (numbers_of w) (first_in asked (ready_in counted) _ first.first) refl)
+        (breaks_key r (key_in (key_body_at part r)) (key_at r h) (front_kept (omega arith) lowest.below) (numbers_of w)
+        (first_in asked (ready_in counted) _ first.first) refl)
 
-    module _ (all : keys ≤ r) {body : List ℕ} (is_body : body ≡ record_body question) {tested : Tested}
-        (so : KeyTested (class_by classes) (file_table tree) (key_in body) tested) where
-      pub counterexample : {w : Witness} → tested ≡ T.Broken w → ChecksCounterexample profile question tree (shown accepted (numbers_of w))
-      unfolding ChecksCounterexample
-      counterexample {w} e =
+    -- every key of the profile is kept: the question's first witness, or 13
+    pub counterexample : KeptBelow (class_by classes) (file_table tree) part keys → {body : List ℕ} → body ≡ record_body question → (found : Option Witness)
+        → KeyTested (class_by classes) (file_table tree) (key_in body) found → (r : Refusal) → meant r ≡ record { number = 13; input = 3; place = 0 }
+        → {result : Result Witness Countered} → result ≡ ok_or found (N.Refused r)
+        → ChecksCounterexample profile question tree (countering_answer result) × CounteringPadded result
+    unfolding ChecksCounterexample
+    counterexample below is_body None keeps r named e =
+        rw e (
           unless_sound _ [] _ _ (none_refuses _ _ (ready_in counted) (here asked (ready_in counted)))
-          (refutes (all_kept all) (numbers_of w) (first_of_question asked (ready_in counted) is_body so e) refl)
-
-      pub keeps_all : tested ≡ T.Kept → {r : Refusal} → meant r ≡ record { number = 13; input = 3; place = 0 }
-          → ChecksCounterexample profile question tree (refused_by (meant r) [])
-      unfolding ChecksCounterexample
-      keeps_all e named =
+              (keeps_question (all_kept below) (keeps_question_lem asked (ready_in counted) is_body keeps) (ap (λ (x : Refusals.Refusal). refused_by x []) named)),
+          padded_refused,
+        )
+    counterexample below is_body (Some w) shows r named e =
+        rw e (
           unless_sound _ [] _ _ (none_refuses _ _ (ready_in counted) (here asked (ready_in counted)))
-          (keeps_question (all_kept all) (keeps_question_lem asked (ready_in counted) is_body so e) (ap (λ (x : Refusals.Refusal). refused_by x []) named))
+              (refutes (all_kept below) (numbers_of w) (first_of_question asked (ready_in counted) is_body shows) refl),
+          padded_accepts shows,
+        )
 
 -- the refusals of either operation
-pub tests_profile_stops : {profile classes : List ℕ} {o : Outcome} {second : Bool} {before keys : ℕ} → ProfileTaken profile o classes second before keys
-    → {r : Refusal} (question tree : List ℕ) → o ≡ O.Refused r → TestsTree profile question tree (refused_by (meant r) [])
+pub tests_profile_stops : {profile : List ℕ} {r : Refusal} → ProfileStops profile r → (question tree : List ℕ) → TestsTree profile question tree (refused_by (meant r) [])
 unfolding TestsTree tree_refusals
-tests_profile_stops taken question tree k = profile_stops taken _ [] _ k
+tests_profile_stops stops question tree = profile_stops _ [] _ stops
 
-pub tests_both_stop : {second : Bool} (question tree : List ℕ) {classes : List ℕ} {o : Outcome} → BothSay second question tree classes o → {r : Refusal} → o ≡ O.Refused r
-    → (profile : List ℕ) → AcceptedIn profile classes second → TestsTree profile question tree (refused_by (meant r) [])
-unfolding TestsTree
-tests_both_stop question tree says k profile ready = both_refuse question tree ready says _ k
-
-pub checks_profile_stops : {profile classes : List ℕ} {o : Outcome} {second : Bool} {before keys : ℕ} → ProfileTaken profile o classes second before keys
-    → {r : Refusal} (question tree : List ℕ) → o ≡ O.Refused r → ChecksCounterexample profile question tree (refused_by (meant r) [])
+pub checks_profile_stops : {profile : List ℕ} {r : Refusal} → ProfileStops profile r → (question tree : List ℕ)
+    → ChecksCounterexample profile question tree (refused_by (meant r) [])
 unfolding ChecksCounterexample tree_refusals
-checks_profile_stops taken question tree k = profile_stops taken _ [] _ k
+checks_profile_stops stops question tree = profile_stops _ [] _ stops
 
-pub checks_both_stop : {second : Bool} (question tree : List ℕ) {profile classes : List ℕ} {labels keys : ℕ} → GivenProfile profile second labels keys classes → {o : Outcome}
-    → BothSay second question tree classes o → {r : Refusal} → o ≡ O.Refused r → ChecksCounterexample profile question tree (refused_by (meant r) [])
-unfolding ChecksCounterexample
-checks_both_stop question tree counted says k = both_refuse question tree (ready_in counted) says _ k
+module _ {profile classes : List ℕ} {second : Bool} {before keys : ℕ} (g : GivenProfile profile second before keys classes) (question tree : List ℕ) where
+  pub tests_both_stop : {r : Refusal} → BothSay second question tree classes (Err r) → TestsTree profile question tree (refused_by (meant r) [])
+  unfolding TestsTree
+  tests_both_stop says = both_refuse question tree (ready_in g) says _
 
--- nothing stands behind the numbers of a witness that is answered
-pub padded_none : {r : Refusal} → KeepingPadded (K.Refused r)
-padded_none = record { padded = λ w e. let z : ◌≡◌ {A = ℕ} 0 1 = cc in absurd (omega arith) }
-
-pub padded_kept : KeepingPadded K.Kept
-padded_kept = record { padded = λ w e. let z : ◌≡◌ {A = ℕ} 0 1 = cc in absurd (omega arith) }
-
-pub padded_broken : (κ : ℕ → Class) (t : Table) (key : Key) {tested : Tested} {w : Witness} → KeyTested κ t key tested → tested ≡ T.Broken w → KeepingPadded (K.Broken w)
-padded_broken κ t key {w = w} k e = record { padded = λ v f. let same : w ≡ v = cc in subst Padded same (tested_broken k e).padded }
-
-pub padded_refused : {r : Refusal} → CounteringPadded (N.Refused r)
-padded_refused =
-    record { accepts = λ w e. let z : ◌≡◌ {A = ℕ} 0 1 = cc in absurd (omega arith); breaks = λ n w e. let z : ◌≡◌ {A = ℕ} 0 1 = cc in absurd (omega arith) }
-
-pub padded_breaks : {κ : ℕ → Class} {t : Table} {key : Key} {n : ℕ} {w : Witness} → FirstShown κ t key w → CounteringPadded (N.Breaks n w)
-padded_breaks {w = w} shown =
-    record {
-      accepts = λ v e. let z : ◌≡◌ {A = ℕ} 0 1 = cc in absurd (omega arith);
-      breaks = λ m v e. let same : w ≡ v = cc in subst Padded same shown.padded;
-    }
-
-pub padded_accepts : (κ : ℕ → Class) (t : Table) (key : Key) {tested : Tested} {w : Witness} → KeyTested κ t key tested → tested ≡ T.Broken w → CounteringPadded (N.Accepted w)
-padded_accepts κ t key {w = w} k e =
-    record {
-      accepts = λ v f. let same : w ≡ v = cc in subst Padded same (tested_broken k e).padded;
-      breaks = λ m v f. let z : ◌≡◌ {A = ℕ} 0 1 = cc in absurd (omega arith);
-    }
+  pub checks_both_stop : {r : Refusal} → BothSay second question tree classes (Err r) → ChecksCounterexample profile question tree (refused_by (meant r) [])
+  unfolding ChecksCounterexample
+  checks_both_stop says = both_refuse question tree (ready_in g) says _

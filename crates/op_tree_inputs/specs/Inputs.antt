@@ -1,79 +1,70 @@
 -- Question and tree under a class table: the first refusal of the two, or that both are accepted.
-use Rattle.std.specs.Prelude.{ℕ, ◌<◌, ◌≡◌, refl, Bool}
+use Rattle.std.specs.Prelude.{ℕ, ◌<◌, ◌≡◌, Bool, Result, Ok, Err, List, [], ◌∷◌}
 use Rattle.std.proofs.Common.{sym, ◌∙◌}
 use Rattle.std.proofs.Math.Path.{subst}
-use mathlib.Core.List.{List, [], ◌∷◌}
-use native.Mathlib.Omega.{arith}
 use Rattle.meaning.specs.Paths.{Label}
 use Rattle.meaning.specs.Refusals.{first_refusal, question_refusal, tree_refusal}
 use Rattle.meaning.specs.Operations.{Answer, Unless, refused_by, second_in, labels_in, tree_refusals}
 use Rattle.read_record.specs.Classes.{Tabled}
 use Rattle.read_judged.specs.Answers.{refusal_of}
-use Rattle.read_judged.specs.declared.Judged.{Judged}
-use Rattle.read_judged.specs.declared.Judged.TheVariants as J
+use Rattle.read_judged.specs.declared.Fault.{Fault}
+use Rattle.op_answers.specs.declared.Input.TheVariants as I
 use Rattle.op_answers.specs.declared.Refusal.{Refusal}
-use Rattle.op_answers.specs.declared.Outcome.{Outcome}
-use Rattle.op_answers.specs.declared.Outcome.TheVariants as O
 use Rattle.op_answers.specs.Cases.{meant, outcome_of}
 use Rattle.op_answers.specs.Outcomes.{outcome_refused, outcome_fine}
 use Rattle.theory_answers.specs.Refusing.{unless_refused, sound_more, sound_end, first_passes, first_named, sound_number, question_settled, tree_settled}
-use Rattle.op_accept.specs.Taken.{AcceptedIn}
+use Rattle.op_accept.specs.Taken.{AcceptedIn, named_input}
 
 pub record Stops (second : Bool) (labels : List Label) (question tree : List ℕ) (r : Refusal) : Type 0 where
   pub is : first_refusal (question_refusal labels question ∷ tree_refusal second labels tree ∷ []) ≡ meant r
-  pub named : 0 < r.input
+  pub named : 0 < (meant r).input
 
 pub record Passes (second : Bool) (labels : List Label) (question tree : List ℕ) : Type 0 where
   pub asked : (question_refusal labels question).number ≡ 0
   pub judged : (tree_refusal second labels tree).number ≡ 0
 
-unfoldable pub BothSay : Bool → (question tree classes : List ℕ) → Outcome → Type 0
-BothSay second question tree classes O.Fine = (labels : List Label) → Tabled labels classes → Passes second labels question tree
-BothSay second question tree classes (O.Refused r) = (labels : List Label) → Tabled labels classes → Stops second labels question tree r
+abbrev pub BothSay : Bool → (question tree classes : List ℕ) → Result Unit Refusal → Type 0
+BothSay second question tree classes (Ok _) = (labels : List Label) → Tabled labels classes → Passes second labels question tree
+BothSay second question tree classes (Err r) = (labels : List Label) → Tabled labels classes → Stops second labels question tree r
 
-module _ (second : Bool) (question classes : List ℕ) (asked : Judged)
-    (says : (labels : List Label) → Tabled labels classes → refusal_of 2 asked ≡ question_refusal labels question) {o : Outcome}
-    (e : o ≡ outcome_of 2 asked) where
-  pub question_stops : (tree : List ℕ) {r : Refusal} → o ≡ O.Refused r → BothSay second question tree classes (O.Refused r)
-  unfolding BothSay
-  question_stops tree {r} k labels tabled =
-      let n = (outcome_refused 2 asked e k).named in
-      let named : 0 < r.input = omega arith in
+module _ (second : Bool) (question tree classes : List ℕ) (asked : Result Unit Fault)
+    (says : (labels : List Label) → Tabled labels classes → refusal_of 2 asked ≡ question_refusal labels question) where
+  pub question_stops : {r : Refusal} → Err r ≡ outcome_of I.Question asked → BothSay second question tree classes (Err r)
+  question_stops {r} e labels tabled =
+      let named = named_input r in
       record {
         is = first_named (meant r) (question_refusal labels question) _ (question_settled labels question)
-            ((outcome_refused 2 asked e k).is ∙ says labels tabled) named;
+            (outcome_refused I.Question asked e ∙ says labels tabled) named;
         named = named;
       }
 
-  pub tree_says : (tree : List ℕ) (judged : Judged)
-      → ((labels : List Label) → Tabled labels classes → refusal_of 3 judged ≡ tree_refusal second labels tree) → o ≡ O.Fine → {r : Outcome}
-      → r ≡ outcome_of 3 judged → BothSay second question tree classes r
-  unfolding BothSay
-  tree_says tree judged after k {r} f = subst (BothSay second question tree classes) (sym f) (go judged after)
+  pub tree_says : {u : Unit} → Ok u ≡ outcome_of I.Question asked → (judged : Result Unit Fault)
+      → ((labels : List Label) → Tabled labels classes → refusal_of 3 judged ≡ tree_refusal second labels tree) → {r : Result Unit Refusal}
+      → r ≡ outcome_of I.TreeOrProof judged → BothSay second question tree classes r
+  tree_says e judged after {r} f = subst (BothSay second question tree classes) (sym f) (go judged after)
     where
       passes : (labels : List Label) → Tabled labels classes → (question_refusal labels question).number ≡ 0
-      passes labels tabled = sound_number (outcome_fine 2 asked e k ∙ says labels tabled)
+      passes labels tabled = sound_number (outcome_fine I.Question asked e ∙ says labels tabled)
 
-      go : (judged : Judged) → ((labels : List Label) → Tabled labels classes → refusal_of 3 judged ≡ tree_refusal second labels tree)
-          → BothSay second question tree classes (outcome_of 3 judged)
-      go J.Sound after = λ labels tabled.
-          record { asked = passes labels tabled; judged = sound_number (outcome_fine 3 J.Sound refl refl ∙ after labels tabled) }
-      go (J.Refused n p) after = λ labels tabled.
+      go : (judged : Result Unit Fault) → ((labels : List Label) → Tabled labels classes → refusal_of 3 judged ≡ tree_refusal second labels tree)
+          → BothSay second question tree classes (outcome_of I.TreeOrProof judged)
+      go (Ok u) after = λ labels tabled. record { asked = passes labels tabled; judged = sound_number (after labels tabled) }
+      go (Err fault) after = λ labels tabled.
+          let r : Refusal = record { kind = fault.kind; input = I.TreeOrProof; place = fault.place } in
+          let named = named_input r in
           record {
             is = first_passes _ _ (passes labels tabled)
-                ∙ first_named (record { number = n; input = 3; place = p }) (tree_refusal second labels tree) _ (tree_settled second labels tree)
-                ((outcome_refused 3 (J.Refused n p) refl refl).is ∙ after labels tabled) (omega arith);
-            named = omega arith;
+                ∙ first_named (meant r) (tree_refusal second labels tree) _ (tree_settled second labels tree) (after labels tabled) named;
+            named = named;
           }
 
 module _ {profile classes : List ℕ} {second : Bool} (question tree : List ℕ) (ready : AcceptedIn profile classes second) where
-  pub both_refuse : {o : Outcome} → BothSay second question tree classes o → {r : Refusal} (Q : Answer → Type 0) → o ≡ O.Refused r
+  pub both_refuse : {r : Refusal} → BothSay second question tree classes (Err r) → (Q : Answer → Type 0)
       → Unless (tree_refusals profile question tree) [] Q (refused_by (meant r) [])
-  unfolding tree_refusals BothSay
-  both_refuse says {r} Q k =
+  unfolding tree_refusals
+  both_refuse {r} says Q =
       let s : Stops (second_in profile) (labels_in profile) question tree r =
-      subst (λ (b : Bool). Stops b (labels_in profile) question tree r) ready.edition
-      (subst (BothSay second question tree classes) k says (labels_in profile) ready.ready.tabled) in
+      subst (λ (b : Bool). Stops b (labels_in profile) question tree r) ready.edition (says (labels_in profile) ready.ready.tabled) in
       unless_refused _ [] Q (meant r) (first_passes _ _ (sound_number ready.ready.accepted) ∙ s.is) s.named
 
   pub none_refuses : Passes (second_in profile) (labels_in profile) question tree → (first_refusal (tree_refusals profile question tree)).number ≡ 0

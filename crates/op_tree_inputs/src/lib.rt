@@ -3,20 +3,18 @@
 
 ghost use Rattle.op_tree_inputs.specs.Inputs.{BothSay};
 
-use op_answers::{Outcome, QUESTION, TREE_OR_PROOF, of_input};
+use op_answers::{Input, Refusal, of_input};
 use read_inputs::question::read_question;
 use read_tree::tree::read_tree;
 
-pub fn read_both(question: &[u8], tree: &[u8], classes: &[u8; 256], second: bool) -> Outcome
+pub fn read_both(
+    question: &[u8],
+    tree: &[u8],
+    classes: &[u8; 256],
+    second: bool,
+) -> Result<(), Refusal>
     ensures { BothSay second question.now tree.now classes.now result }
 {
-    let asked = read_question(question, classes);
-    let outcome = of_input(asked, QUESTION);
-    match outcome {
-        Outcome::Refused(refusal) => Outcome::Refused(refusal),
-        Outcome::Fine => {
-            let judged = read_tree(tree, classes, second);
-            of_input(judged, TREE_OR_PROOF)
-        }
-    }
+    of_input(read_question(question, classes), Input::Question)?;
+    of_input(read_tree(tree, classes, second), Input::TreeOrProof)
 }

@@ -13,7 +13,7 @@ use Rattle.meaning.specs.Lists.{keep}
 use Rattle.meaning.specs.Rules.{Line, line_keys, EndsWith, Accepted}
 use Rattle.meaning.specs.Records.{line_bytes}
 use Rattle.meaning.specs.Refusals.{question_in}
-use Rattle.meaning.specs.Operations.{records_from, single_in, labels_in, keys_in, ChecksProof, refused_by, trimmed}
+use Rattle.meaning.specs.Operations.{records_from, single_in, labels_in, keys_in, ChecksProof, refused_by, plain, accepted, trimmed}
 use Rattle.meaning.specs.Trimming.{earliest, pointed, with_premises, premises, line_at, needed, place_in, trimmed_lines, trimmed_proof, Trims}
 use Rattle.theory_lists.specs.Bools.{true_of}
 use Rattle.theory_trees.specs.Children.{keep_mem}
@@ -28,9 +28,7 @@ use Rattle.theory_trim.specs.Marks.{Marking, needed_marked, place_marked}
 use Rattle.theory_trim.specs.TrimmedBytes.{ProofSound, proof_sound, trimmed_fits}
 use Rattle.write_bytes.specs.Wrote.{Wrote}
 use Rattle.op_answers.specs.declared.Refusal.{Refusal}
-use Rattle.op_answers.specs.declared.Checking.{Checking}
-use Rattle.op_answers.specs.declared.Checking.TheVariants as C
-use Rattle.op_answers.specs.Cases.{meant, used_of, checking_answer}
+use Rattle.op_answers.specs.Cases.{meant, used_of}
 use Rattle.op_proof.specs.Taking.{return_small, return_refused, return_filled}
 use Rattle.rule_stands.specs.Standing.{Proved, Standing, line_here, count_is, lines_found, line_read}
 use Rattle.rule_stands.specs.Pointing.{Pointing}
@@ -163,22 +161,21 @@ pub trim_small : (profile question proof buffer : List ℕ) (r : Refusal) → le
 unfolding Trims
 trim_small profile question proof buffer = return_small trimmed profile question proof (trimmed_proof profile question proof) buffer
 
-module _ (profile question proof buffer : List ℕ) (room : 65536 ≤ length buffer) {k : Checking} (checked : ChecksProof profile question proof (checking_answer k)) where
-  -- the check's own refusal
-  pub trim_refused : {r : Refusal} → k ≡ C.Refused r → Trims profile question proof buffer (refused_by (meant r) buffer)
+-- the check's own refusal
+pub trim_refused : (profile question proof buffer : List ℕ) (r : Refusal) → ChecksProof profile question proof (refused_by (meant r) [])
+    → 65536 ≤ length buffer → Trims profile question proof buffer (refused_by (meant r) buffer)
+unfolding Trims
+trim_refused profile question proof buffer r checked room =
+    return_refused trimmed profile question proof (trimmed_proof profile question proof) buffer room r checked
+
+module _ (profile question proof : List ℕ) (checked : ChecksProof profile question proof (plain accepted)) where
+  pub trim_proved : Proved proof
+  trim_proved = record { profile = profile; question = question; sound = proof_sound profile question proof checked }
+
+  pub trim_filled : {buffer after : List ℕ} {used : ℕ} → 65536 ≤ length buffer
+      → ((p q : List ℕ) → ProofSound p q proof → Wrote buffer after 0 (trimmed_proof p q proof) used)
+      → Trims profile question proof buffer (used_of trimmed used after)
   unfolding Trims
-  trim_refused e = return_refused trimmed profile question proof (trimmed_proof profile question proof) buffer room checked e
-
-  module _ (e : k ≡ C.Accepted) where
-    sound_proof : ProofSound profile question proof
-    sound_proof = proof_sound profile question proof (subst (λ (x : Checking). ChecksProof profile question proof (checking_answer x)) e checked)
-
-    pub trim_proved : Proved proof
-    trim_proved = record { profile = profile; question = question; sound = sound_proof }
-
-    pub trim_filled : {after : List ℕ} {used : ℕ}
-        → ((p q : List ℕ) → ProofSound p q proof → Wrote buffer after 0 (trimmed_proof p q proof) used)
-        → Trims profile question proof buffer (used_of trimmed used after)
-    unfolding Trims
-    trim_filled wrote =
-        return_filled trimmed profile question proof (trimmed_proof profile question proof) buffer room checked e (wrote profile question sound_proof)
+  trim_filled {buffer} room wrote =
+      return_filled trimmed profile question proof (trimmed_proof profile question proof) buffer room checked
+      (wrote profile question (proof_sound profile question proof checked))

@@ -8,7 +8,7 @@ use Rattle.meaning.specs.Keys.{Key}
 use Rattle.meaning.specs.Records.{record_body, read_key, key_in, is_some}
 use Rattle.meaning.specs.Refusals.{first_entry, profile_refusal, question_refusal, question_in}
 use Rattle.meaning.specs.Refusals as Table
-use Rattle.meaning.specs.Operations.{refused_by, filled, records_from, labels_in, second_in, line_written}
+use Rattle.meaning.specs.Operations.{refused_by, filled, records_from, labels_in, line_written}
 use Rattle.meaning.specs.Text.{WritesLine, print_key, typed_of}
 use Rattle.theory_records.specs.Encodings.{ends_key}
 use Rattle.theory_records.specs.Profiles.{LabelsRead, profile_accepts}
@@ -19,20 +19,12 @@ use Rattle.read_entry.specs.Labels.{labels_at}
 use Rattle.read_entry.specs.Repeats.{Standing}
 use Rattle.read_labels.specs.LabelPart.{LabelPart, part_first, label_part}
 use Rattle.op_answers.specs.declared.Refusal.{Refusal}
-use Rattle.op_answers.specs.declared.Outcome.{Outcome}
-use Rattle.op_answers.specs.declared.Outcome.TheVariants as O
 use Rattle.op_answers.specs.Cases.{meant, used_of}
-use Rattle.op_accept.specs.Taken.{BothTaken, both_stops, both_pass}
+use Rattle.op_accept.specs.Taken.{BothStop, both_stops, both_pass}
+use Rattle.read_inputs.specs.Accepted.{Given}
 use Rattle.write_bytes.specs.Wrote.{Wrote, wrote_is, wrote_front}
 
--- an accepted profile with an accepted question
-pub record LineAsked (profile question : List ℕ) (second : Bool) (before : ℕ) : Type 0 where
-  pub accepted_profile : (profile_refusal profile).number ≡ 0
-  pub edition : second ≡ second_in profile
-  pub before_keys : before ≡ first_entry profile + length (labels_in profile)
-  pub accepted_question : (question_refusal (labels_in profile) question).number ≡ 0
-
-module _ {profile question : List ℕ} {second : Bool} {before : ℕ} (a : LineAsked profile question second before) where
+module _ {profile question classes : List ℕ} {second : Bool} {before keys : ℕ} (a : Given profile second before keys question classes) where
   the_key : QuestionSound (labels_in profile) question
   the_key = question_accepts (labels_in profile) question a.accepted_question
 
@@ -81,21 +73,17 @@ unfolding WritesLine
 write_small profile question buffer r h e =
     subst (λ (x : Table.Refusal). WritesLine profile question buffer (refused_by x buffer)) (sym e) (unless_small _ buffer _ h)
 
-module _ {profile question classes : List ℕ} {outcome : Outcome} {second : Bool} {before keys : ℕ} (taken : BothTaken profile question outcome classes second before keys) where
-  pub write_stops : {r : Refusal} (buffer : List ℕ) → 65536 ≤ length buffer → outcome ≡ O.Refused r → WritesLine profile question buffer (refused_by (meant r) buffer)
-  unfolding WritesLine
-  write_stops buffer room k = unless_room _ buffer _ _ room (both_stops taken _ buffer _ k)
+pub write_stops : {profile question : List ℕ} {r : Refusal} → BothStop profile question r → (buffer : List ℕ) → 65536 ≤ length buffer
+    → WritesLine profile question buffer (refused_by (meant r) buffer)
+unfolding WritesLine
+write_stops s buffer room = unless_room _ buffer _ _ room (both_stops _ buffer _ s)
 
-  pub write_asked : outcome ≡ O.Fine → LineAsked profile question second before
-  write_asked k =
-      let g = taken.given k in
-      record { accepted_profile = g.accepted_profile; edition = g.edition; before_keys = g.before_keys; accepted_question = g.accepted_question }
-
-  pub write_filled : {buffer after : List ℕ} {used : ℕ} → 65536 ≤ length buffer → outcome ≡ O.Fine
-      → Wrote buffer after 0 (print_key (typed_of (labels_in profile) (question_in question))) used
-      → WritesLine profile question buffer (used_of line_written used after)
-  unfolding WritesLine filled
-  write_filled {buffer} room k w =
-      let v = wrote_front w in
-      unless_room _ buffer _ _ room
-      (both_pass taken _ buffer _ _ k (unless_sound _ buffer _ _ sound_end (ap₂ (λ (n : ℕ) (b : List ℕ). used_of line_written n b) v.0 v.1)))
+pub write_filled : {profile question classes : List ℕ} {second : Bool} {before keys : ℕ} → Given profile second before keys question classes
+    → {buffer after : List ℕ} {used : ℕ} → 65536 ≤ length buffer
+    → Wrote buffer after 0 (print_key (typed_of (labels_in profile) (question_in question))) used
+    → WritesLine profile question buffer (used_of line_written used after)
+unfolding WritesLine filled
+write_filled g {buffer} room w =
+    let v = wrote_front w in
+    unless_room _ buffer _ _ room
+    (both_pass g _ buffer _ _ (unless_sound _ buffer _ _ sound_end (ap₂ (λ (n : ℕ) (b : List ℕ). used_of line_written n b) v.0 v.1)))

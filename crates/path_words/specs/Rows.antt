@@ -1,4 +1,4 @@
--- Two rows of marks of two paths (02, request 4): what a mark says, what a row says, and a law for each return. Row `old` holds a test of
+-- Two rows of marks of two paths: what a mark says, what a row says, and a law for each return. Row `old` holds a test of
 -- each end of p; the other row comes to hold the same test with one symbol more in front.
 use Prim.Native.Nat.{ℕ, zero, suc, zero-le, ◌≤◌, ◌<◌, ◌+◌, ◌-◌}
 use Rattle.std.proofs.Common.{add-one, le_refl, ap, ap₂, ◌∙◌, length-set, drop_of_length-le, get_or-set_other}
@@ -23,17 +23,17 @@ mark_of old new p symbol i =
     (cond (ltb i (length p)) (eqb (get_or p i 0) symbol && get_or old (i + 1) false) false)
 
 module _ (old new : List Bool) (p : List ℕ) (s i : ℕ) where
-  pub mark_ends : s ≡ 0 → get_or old i false ≡ true → true ≡ mark_of old new p s i
+  pub mark_ends : s ≡ 0 → get_or old i false ≡ true → get_or old i false ≡ mark_of old new p s i
   unfolding mark_of
-  mark_ends z o = sym (simp (eq-eqb s 0 z, o))
+  mark_ends z o = o ∙ sym (simp (eq-eqb s 0 z, o))
 
   pub mark_takes : s ≡ 0 → get_or old i false ≡ false → i < length p → get_or new (i + 1) false ≡ mark_of old new p s i
   unfolding mark_of
   mark_takes z o h = sym (simp (eq-eqb s 0 z, o, lt-ltb i (length p) h))
 
-  pub mark_nowhere : s ≡ 0 → get_or old i false ≡ false → length p ≤ i → false ≡ mark_of old new p s i
+  pub mark_nowhere : s ≡ 0 → get_or old i false ≡ false → length p ≤ i → ltb i (length p) ≡ mark_of old new p s i
   unfolding mark_of
-  mark_nowhere z o h = sym (simp (eq-eqb s 0 z, o, le-ltb i (length p) h))
+  mark_nowhere z o h = le-ltb i (length p) h ∙ sym (simp (eq-eqb s 0 z, o, le-ltb i (length p) h))
 
   pub mark_same : (s ≡ 0 → ⊥) → i < length p → get_or p i 0 ≡ s → get_or old (i + 1) false ≡ mark_of old new p s i
   unfolding mark_of

@@ -168,10 +168,8 @@ pub told_word : (r : Membership) (P w : List ℕ) → Told r P w → r ≡ Word 
 unfolding Told
 told_word r P w t e = sym (subst (λ (f : Membership). Told f P w) e t)
 
-pub told_none : (r : Membership) (P w : List ℕ) → Told r P w → r ≡ NoWord → false ≡ member P w
+pub told_not : (r : Membership) (P w : List ℕ) → Told r P w → (r ≡ Word → ⊥) → false ≡ member P w
 unfolding Told
-told_none r P w t e = sym (subst (λ (f : Membership). Told f P w) e t)
-
-pub told_out : (r : Membership) (P w : List ℕ) → Told r P w → r ≡ OutOfLabels → false ≡ member P w
-unfolding Told
-told_out r P w t e = sym (end_self (member P) w (subst (λ (f : Membership). Told f P w) e t))
+told_not Word P w t n = absurd (n refl)
+told_not NoWord P w t n = sym t
+told_not OutOfLabels P w t n = sym (end_self (member P) w t)

@@ -1,5 +1,5 @@
-// Words and inclusion (document 01, "Trees, paths and keys"; ARGUMENT §1). A path and a run of labels are slices of symbols; each
-// contract cites the definition in `meaning`.
+// Words and inclusion ("Trees, paths and keys"; ARGUMENT §1). A path and a run of labels are slices of symbols; each contract cites the
+// definition in `meaning`.
 #![tactic(auto)]
 
 ghost use Rattle.std.specs.Prelude.{◌≡◌, [], ◌-◌, ◌≤◌, ◌<◌, length, get_or};
@@ -12,7 +12,7 @@ pub const ANY_PATH: u8 = 0;
 
 // What a search for a word says: the run is a word, it is none, or it is none and no end of it is one: then an any-path further out,
 // which can only offer less of the run, need not try again.
-#[derive(Clone, Copy)]
+#[derive(Clone, Copy, Debug, PartialEq, Eq)]
 pub enum Membership {
     Word,
     NoWord,
@@ -24,10 +24,11 @@ fn search(run: &[u8], path: &[u8]) -> Membership
     ensures { Told result path.now run.now }
 {
     if path.len() == 0 {
-        if run.len() == 0 {
-            return Membership::Word;
-        }
-        return Membership::NoWord;
+        return if run.len() == 0 {
+            Membership::Word
+        } else {
+            Membership::NoWord
+        };
     }
     if path[0] == ANY_PATH {
         let ended = search(run, &path[1..]);
@@ -56,17 +57,13 @@ fn search(run: &[u8], path: &[u8]) -> Membership
 pub fn member(run: &[u8], path: &[u8]) -> bool
     ensures { result ≡ is_member path.now run.now }
 {
-    match search(run, path) {
-        Membership::Word => true,
-        Membership::NoWord => false,
-        Membership::OutOfLabels => false,
-    }
+    matches!(search(run, path), Membership::Word)
 }
 
 // A path of a proof line has at most 32 symbols and so at most 33 ends; a row has a mark for each end of P.
 const ROW: usize = 33;
 
-// "no more than two rows of marks" (02, request 4): row `old` speaks of an end of Q, the other one is filled for the end one symbol longer.
+// "no more than two rows of marks": row `old` speaks of an end of Q, the other one is filled for the end one symbol longer.
 const ROWS: usize = 2;
 
 // Mark i of the row that is filled: the end of P from i on is a word of the path with this symbol in front of what row `old` speaks of.
@@ -75,20 +72,9 @@ fn mark(rows: &[[bool; ROW]; ROWS], old: usize, p: &[u8], symbol: u8, i: usize) 
     ensures { result ≡ mark_of (get_or rows.now old []) (get_or rows.now (1 - old) []) p.now symbol i }
 {
     if symbol == ANY_PATH {
-        if rows[old][i] {
-            return true;
-        }
-        if i < p.len() {
-            return rows[1 - old][i + 1];
-        }
-        return false;
+        return rows[old][i] || i < p.len() && rows[1 - old][i + 1];
     }
-    if i < p.len() {
-        if p[i] == symbol {
-            return rows[old][i + 1];
-        }
-    }
-    false
+    i < p.len() && p[i] == symbol && rows[old][i + 1]
 }
 
 // Fills the row that is not `old` for the path with this symbol in front, from its last mark to its first.
@@ -96,11 +82,9 @@ fn next_row(rows: &mut [[bool; ROW]; ROWS], old: usize, p: &[u8], symbol: u8)
     requires { (old < 2) × (length p.now ≤ 32) × TwoRows rows.old }
     ensures { Stepped rows.old rows.new old p.now symbol }
 {
-    let mut left = p.len() + 1;
-    while 0 < left {
-        left -= 1;
-        let word = mark(&*rows, old, p, symbol, left);
-        rows[1 - old][left] = word;
+    for i in (0..p.len() + 1).rev() {
+        let word = mark(&*rows, old, p, symbol, i);
+        rows[1 - old][i] = word;
     }
 }
 
@@ -114,11 +98,8 @@ pub fn included(p: &[u8], q: &[u8]) -> bool
     let mut rows = [[false; ROW]; ROWS];
     rows[0][end] = true;
     let mut old: usize = 0;
-    let mut left = q.len();
-    while 0 < left {
-        left -= 1;
-        let symbol = q[left];
-        next_row(&mut rows, old, p, symbol);
+    for i in (0..q.len()).rev() {
+        next_row(&mut rows, old, p, q[i]);
         old = 1 - old;
     }
     rows[old][0]

@@ -2,131 +2,94 @@
 // the public operations: it reads files, calls one operation and prints its answer; where a file cannot be read, `unreadable` and its name.
 #![tactic(auto)]
 
-use op_answers::{Inclusion, Rewriting};
 use program_files::{
-    ANSWER_ROOM, Number, PATH_READ, PROFILE_READ, QUESTION_READ, TREE_READ, is_word,
-    number_argument, part_read, print, print_refusal, read_argument, unread, word_count,
-    write_used,
+    ANSWER_ROOM, PATH_READ, PROFILE_READ, QUESTION_READ, TREE_READ, WORD_ROOM, number_argument,
+    read_argument, word_argument, word_count, write_used,
 };
 use program_witness::print_keeping;
 use std::io;
 use std::rt::{Env, Files};
 
 fn usage(rt: &impl Print) -> io::Result<()> {
-    print(
-        rt,
-        b"usage: profile rewrite PROFILE OUT | profile body PROFILE N | profile include PROFILE PATH PATH | profile keep PROFILE QUESTION TREE\n",
+    println!(rt;
+        "usage: profile rewrite PROFILE OUT | profile body PROFILE N | profile include PROFILE PATH PATH | profile keep PROFILE QUESTION TREE"
     )
 }
 
 fn rewrite(rt: &(impl Env + Files + Print)) -> io::Result<()> {
     let mut profile = [0u8; PROFILE_READ];
-    let first = read_argument(rt, 2, &mut profile)?;
-    if unread(first) {
+    let Some(count) = read_argument(rt, 2, &mut profile)? else {
         return Ok(());
-    }
+    };
     let mut answer = [0u8; ANSWER_ROOM];
-    let rewritten = op_profile::profiles::rewrite(part_read(first, &profile), &mut answer);
-    match rewritten {
-        Rewriting::Refused(r) => print_refusal(rt, r.number, r.input, r.place),
-        Rewriting::Rewritten(used) => write_used(rt, 3, b"rewritten", &answer, used),
+    match op_profile::profiles::rewrite(&profile[..count], &mut answer) {
+        Ok(used) => write_used(rt, 3, "rewritten", &answer, used),
+        Err(refusal) => println!(rt; "{refusal}"),
     }
 }
 
 fn body(rt: &(impl Env + Files + Print), n: usize) -> io::Result<()> {
     let mut profile = [0u8; PROFILE_READ];
-    let first = read_argument(rt, 2, &mut profile)?;
-    if unread(first) {
+    let Some(count) = read_argument(rt, 2, &mut profile)? else {
         return Ok(());
-    }
-    print(
-        rt,
-        op_profile::profiles::body(part_read(first, &profile), n),
-    )
+    };
+    rt.write_all(op_profile::profiles::body(&profile[..count], n))
 }
 
 fn include(rt: &(impl Env + Files + Print)) -> io::Result<()> {
     let mut profile = [0u8; PROFILE_READ];
-    let first = read_argument(rt, 2, &mut profile)?;
-    if unread(first) {
+    let Some(first) = read_argument(rt, 2, &mut profile)? else {
         return Ok(());
-    }
+    };
     let mut path = [0u8; PATH_READ];
-    let second = read_argument(rt, 3, &mut path)?;
-    if unread(second) {
+    let Some(second) = read_argument(rt, 3, &mut path)? else {
         return Ok(());
-    }
+    };
     let mut other = [0u8; PATH_READ];
-    let third = read_argument(rt, 4, &mut other)?;
-    if unread(third) {
+    let Some(third) = read_argument(rt, 4, &mut other)? else {
         return Ok(());
-    }
-    let included = op_profile::inclusions::include(
-        part_read(first, &profile),
-        part_read(second, &path),
-        part_read(third, &other),
-    );
-    match included {
-        Inclusion::Included => print(rt, b"included\n"),
-        Inclusion::NotIncluded => print(rt, b"not included\n"),
-        Inclusion::Refused(r) => print_refusal(rt, r.number, r.input, r.place),
+    };
+    match op_profile::inclusions::include(&profile[..first], &path[..second], &other[..third]) {
+        Ok(true) => println!(rt; "included"),
+        Ok(false) => println!(rt; "not included"),
+        Err(refusal) => println!(rt; "{refusal}"),
     }
 }
 
 fn keep(rt: &(impl Env + Files + Print)) -> io::Result<()> {
     let mut profile = [0u8; PROFILE_READ];
-    let first = read_argument(rt, 2, &mut profile)?;
-    if unread(first) {
+    let Some(first) = read_argument(rt, 2, &mut profile)? else {
         return Ok(());
-    }
+    };
     let mut question = [0u8; QUESTION_READ];
-    let second = read_argument(rt, 3, &mut question)?;
-    if unread(second) {
+    let Some(second) = read_argument(rt, 3, &mut question)? else {
         return Ok(());
-    }
+    };
     let mut tree = [0u8; TREE_READ];
-    let third = read_argument(rt, 4, &mut tree)?;
-    if unread(third) {
+    let Some(third) = read_argument(rt, 4, &mut tree)? else {
         return Ok(());
-    }
+    };
     print_keeping(
         rt,
-        op_tree::keep(
-            part_read(first, &profile),
-            part_read(second, &question),
-            part_read(third, &tree),
-        ),
+        op_tree::keep(&profile[..first], &question[..second], &tree[..third]),
     )
 }
 
 // `profile body PROFILE N`: digits alone are a number.
 fn body_of_argument(rt: &(impl Env + Files + Print)) -> io::Result<()> {
-    let number = number_argument(rt, 3);
-    match number {
-        Number::Is(n) => body(rt, n),
-        Number::NotDigits => usage(rt),
+    match number_argument(rt, 3) {
+        Some(n) => body(rt, n),
+        None => usage(rt),
     }
 }
 
 fn main(rt: HostRuntime) -> io::Result<()> {
-    let words = word_count(&rt);
-    if words == 4 {
-        if is_word(&rt, 1, b"rewrite") {
-            return rewrite(&rt);
-        }
-        if is_word(&rt, 1, b"body") {
-            return body_of_argument(&rt);
-        }
-        return usage(&rt);
+    let mut room = [0u8; WORD_ROOM];
+    match (word_count(&rt), word_argument(&rt, 1, &mut room)) {
+        (4, b"rewrite") => rewrite(&rt),
+        (4, b"body") => body_of_argument(&rt),
+        (5, b"include") => include(&rt),
+        (5, b"keep") => keep(&rt),
+        _ => usage(&rt),
     }
-    if words == 5 {
-        if is_word(&rt, 1, b"include") {
-            return include(&rt);
-        }
-        if is_word(&rt, 1, b"keep") {
-            return keep(&rt);
-        }
-        return usage(&rt);
-    }
-    usage(&rt)
 }

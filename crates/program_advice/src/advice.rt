@@ -1,13 +1,12 @@
 // The candidates in their order, each decided, and those that follow printed as keys in plain text.
 ghost use Rattle.std.specs.Prelude.{◌≡◌, true};
-ghost use Rattle.program_advice.specs.Advice.{Follows, implied_by};
+ghost use Rattle.program_advice.specs.Advice.{Follows};
 
 use crate::candidates::{put_cut, put_with_path};
-use crate::keys::{keys_of, path_at, target_of};
-use op_answers::{Deciding, Filling};
+use crate::keys::{path_at, target_of};
+use op_answers::Decision;
 use op_decide::decide;
 use op_write_line::write_line;
-use program_files::print;
 use program_layout::parts::part;
 use std::io;
 
@@ -20,31 +19,31 @@ const CANDIDATE_ROOM: usize = 128;
 // 64 keys of 4 key paths
 const MOST_PATHS: usize = 256;
 
-fn says_implied(decided: Deciding) -> bool
-    ensures { result ≡ implied_by decided }
-{
-    match decided {
-        Deciding::Implied(_) => true,
-        Deciding::NotImplied(_) => false,
-        Deciding::Refused(_) => false,
-    }
+// A profile, and a question that it does not imply.
+#[derive(Clone, Copy, Debug)]
+struct Asked<'a> {
+    profile: &'a [u8],
+    question: &'a [u8],
 }
 
 // The decider says that the key follows.
 fn follows(profile: &[u8], candidate: &[u8], answer: &mut [u8]) -> bool
     ensures { result ≡ true → Follows profile.now candidate.now }
 {
-    says_implied(decide(profile, candidate, answer))
+    match decide(profile, candidate, answer) {
+        Ok(Decision::Implied(_)) => true,
+        Ok(Decision::NotImplied(_)) => false,
+        Err(_) => false,
+    }
 }
 
 // A key is printed only where it follows: the `requires` is what `follows` gives.
 fn print_key(rt: &impl Print, profile: &[u8], candidate: &[u8], answer: &mut [u8]) -> io::Result<()>
     requires { Follows profile.now candidate.now }
 {
-    let written = write_line(profile, candidate, answer);
-    if let Filling::Filled(used) = written {
-        print(rt, part(answer, 0, used))?;
-        print(rt, b"\n")?;
+    if let Ok(used) = write_line(profile, candidate, answer) {
+        rt.write_all(part(answer, 0, used))?;
+        println!(rt)?;
     }
     Ok(())
 }
@@ -69,94 +68,69 @@ fn print_candidate(
 
 fn print_cut(
     rt: &impl Print,
-    profile: &[u8],
-    question: &[u8],
+    asked: Asked,
     cut: usize,
     printed: usize,
     answer: &mut [u8],
 ) -> io::Result<usize> {
     let mut candidate = [0u8; CANDIDATE_ROOM];
-    let used = put_cut(&mut candidate, question, cut);
-    print_candidate(rt, profile, part(&candidate, 0, used), printed, answer)
+    let used = put_cut(&mut candidate, asked.question, cut);
+    print_candidate(
+        rt,
+        asked.profile,
+        part(&candidate, 0, used),
+        printed,
+        answer,
+    )
+}
+
+// "the same key inside a longer context (T cut at each place)"
+fn print_cuts(rt: &impl Print, asked: Asked, answer: &mut [u8]) -> io::Result<usize> {
+    let mut printed = 0;
+    for cut in 1..target_of(asked.question).len() {
+        printed = print_cut(rt, asked, cut, printed, answer)?;
+    }
+    Ok(printed)
 }
 
 fn print_with_path(
     rt: &impl Print,
-    profile: &[u8],
-    question: &[u8],
+    asked: Asked,
     path: &[u8],
     printed: usize,
     answer: &mut [u8],
 ) -> io::Result<usize> {
     let mut candidate = [0u8; CANDIDATE_ROOM];
-    let used = put_with_path(&mut candidate, question, path);
-    print_candidate(rt, profile, part(&candidate, 0, used), printed, answer)
+    let used = put_with_path(&mut candidate, asked.question, path);
+    print_candidate(
+        rt,
+        asked.profile,
+        part(&candidate, 0, used),
+        printed,
+        answer,
+    )
 }
 
-// "the same key inside a longer context (T cut at each place)"
-fn print_cuts(
-    rt: &impl Print,
-    profile: &[u8],
-    question: &[u8],
-    answer: &mut [u8],
-) -> io::Result<usize> {
-    let limit = target_of(question).len();
-    let mut printed = 0;
-    let mut cut = 1;
-    while cut < limit {
-        let more = print_cut(rt, profile, question, cut, printed, answer)?;
-        printed = more;
-        cut += 1;
-    }
-    Ok(printed)
-}
-
-// Key path n of the keys stands among those before it.
-fn tried(keys: &[u8], n: usize) -> bool {
-    let path = path_at(keys, n);
-    let mut i = 0;
-    while i < n {
-        if path_at(keys, i) == path {
-            return true;
-        }
-        i += 1;
-    }
-    false
-}
-
-fn print_path(
-    rt: &impl Print,
-    profile: &[u8],
-    question: &[u8],
-    n: usize,
-    printed: usize,
-    answer: &mut [u8],
-) -> io::Result<usize> {
-    let keys = keys_of(profile);
-    let path = path_at(keys, n);
-    if path.len() == 0 {
-        return Ok(printed);
-    }
-    if tried(keys, n) {
-        return Ok(printed);
-    }
-    print_with_path(rt, profile, question, path, printed, answer)
+// A path stands among the first n key paths of the profile's keys.
+fn tried(profile: &[u8], path: &[u8], n: usize) -> bool {
+    (0..n).any(|i| path_at(profile, i).is_some_and(|other| other == path))
 }
 
 // "with one key path more, taken from the key paths of profile keys that fit": one that stands in S already is refused as repeated.
 fn print_paths(
     rt: &impl Print,
-    profile: &[u8],
-    question: &[u8],
+    asked: Asked,
     before: usize,
     answer: &mut [u8],
 ) -> io::Result<usize> {
     let mut printed = before;
-    let mut n = 0;
-    while n < MOST_PATHS {
-        let more = print_path(rt, profile, question, n, printed, answer)?;
-        printed = more;
-        n += 1;
+    for n in 0..MOST_PATHS {
+        let Some(path) = path_at(asked.profile, n) else {
+            break;
+        };
+        if !tried(asked.profile, path, n) {
+            printed = print_with_path(rt, asked, path, printed, answer)?;
+        }
     }
     Ok(printed)
 }
@@ -168,9 +142,10 @@ pub fn print_near(
     question: &[u8],
     answer: &mut [u8],
 ) -> io::Result<()> {
-    let cuts = print_cuts(rt, profile, question, answer)?;
-    if print_paths(rt, profile, question, cuts, answer)? == 0 {
-        print(rt, b"nothing near\n")?;
+    let asked = Asked { profile, question };
+    let cuts = print_cuts(rt, asked, answer)?;
+    if print_paths(rt, asked, cuts, answer)? == 0 {
+        println!(rt; "nothing near")?;
     }
     Ok(())
 }

@@ -1,6 +1,6 @@
 // Questions near a question, put together in a lent buffer. What they are is not proved: whatever stands there, the decider judges it.
 use crate::keys::{behind, context_of, key_body, lead, set_of, target_of};
-use program_layout::parts::{byte_at, less, part};
+use program_layout::parts::{byte_at, part};
 use program_records::{append, append_byte, append_head};
 use read_record::bodies::KEY_KIND;
 use read_record::fields::HEAD_BYTES;
@@ -10,22 +10,13 @@ fn append_joined(out: &mut [u8], at: usize, path: &[u8], other: &[u8]) -> usize 
     let first = append_byte(out, at, 0);
     let second = append(out, first, path);
     let end = append(out, second, other);
-    append_byte(out, at, less(end, first));
+    append_byte(out, at, end.saturating_sub(first));
     end
 }
 
 // "Joining two paths removes doubled 0": how many symbols of the second are left out.
 fn doubled(path: &[u8], other: &[u8]) -> usize {
-    if path.len() == 0 {
-        return 0;
-    }
-    if byte_at(path, path.len() - 1) != 0 {
-        return 0;
-    }
-    if byte_at(other, 0) != 0 {
-        return 0;
-    }
-    1
+    usize::from(path.ends_with(&[0]) && other.starts_with(&[0]))
 }
 
 // (C.X, (Y, S)), where T is X of so many symbols and then Y: how many bytes the record has.
@@ -40,33 +31,16 @@ pub fn put_cut(out: &mut [u8], question: &[u8], cut: usize) -> usize {
     end
 }
 
-// The one path stands before the other in a record.
-fn precedes(path: &[u8], other: &[u8]) -> bool {
-    let mut i = 0;
-    while i < path.len() {
-        let here = byte_at(path, i);
-        let there = byte_at(other, i);
-        if here != there {
-            return here < there;
-        }
-        i += 1;
-    }
-    false
-}
-
 // How many bytes of a set stand before a path's place in it: the count, and the key paths that precede it.
 fn place_in(set: &[u8], path: &[u8]) -> usize {
     let mut rest = part(set, 1, set.len());
-    let mut left = byte_at(set, 0);
-    while 0 < left {
-        if !precedes(lead(rest), path) {
-            return less(set.len(), rest.len());
+    for _ in 0..byte_at(set, 0) {
+        if lead(rest) >= path {
+            break;
         }
-        let next = behind(rest);
-        rest = next;
-        left -= 1;
+        rest = behind(rest);
     }
-    less(set.len(), rest.len())
+    set.len().saturating_sub(rest.len())
 }
 
 // (C, (T, S and P)): how many bytes the record has.
@@ -74,7 +48,11 @@ pub fn put_with_path(out: &mut [u8], question: &[u8], path: &[u8]) -> usize {
     let body = key_body(question);
     let set = set_of(question);
     let place = place_in(set, path);
-    let set_at = append(out, HEAD_BYTES, part(body, 0, less(body.len(), set.len())));
+    let set_at = append(
+        out,
+        HEAD_BYTES,
+        part(body, 0, body.len().saturating_sub(set.len())),
+    );
     let paths_at = append_byte(out, set_at, byte_at(set, 0) + 1);
     let path_at = append(out, paths_at, part(set, 1, place));
     let later_at = append(out, path_at, path);

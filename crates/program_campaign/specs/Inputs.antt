@@ -1,5 +1,5 @@
 -- Inputs counted one after the other, a name at a time: the report is that of a list of as many inputs as there are names. One law for each return.
-use Rattle.std.specs.Prelude.{ℕ, ◌+◌, ◌<◌, ◌≤◌, ◌≡◌, refl, Bool, true, false, List, [], ◌∷◌, ◌++◌, length, replicate}
+use Rattle.std.specs.Prelude.{ℕ, ◌+◌, ◌<◌, ◌≤◌, ◌≡◌, refl, Bool, true, false, Result, Ok, Err, is_err, List, [], ◌∷◌, ◌++◌, length, replicate}
 use Rattle.std.proofs.Common.{sym, ◌∙◌, ap, subst, true≢false, arith, length-append}
 use Rattle.std.proofs.Math.Decide.{dec_lt}
 use Rattle.std.proofs.lemmas.List.{length-replicate}
@@ -11,8 +11,6 @@ use Rattle.meaning.specs.Tally.{Tally, no_tally, Adds, AddsUnread, ReportsTally}
 use Rattle.theory_campaign.specs.Tallies.{Tallied, tallied_none, tallied_segment, tallied_unread, campaign_right, stopped_by_inputs}
 use Rattle.theory_campaign.specs.Listings.{after_name, list_long}
 use Rattle.op_answers.specs.declared.Refusal.{Refusal}
-use Rattle.op_answers.specs.declared.Filling.{Filling}
-use Rattle.op_answers.specs.declared.Filling.TheVariants as F
 use Rattle.op_answers.specs.Cases.{meant, filling_answer}
 use Rattle.read_names.specs.Names.{Read, read_start, read_more, read_few, read_all}
 
@@ -99,17 +97,22 @@ campaign_counted {list} {profile} {buffer} {answer} t c u =
 pub record InputsRefused (list profile : List ℕ) (refuses : Bool) : Type 0 where
   pub told : refuses ≡ true → (list_refusal list).number ≡ 0 → (profile_refusal profile).number ≡ 0 → ⊥
 
-pub inputs_refused : {list profile : List ℕ} (tried after : List ℕ) (none : Tally) (first : Filling) (r : Refusal) → 65536 ≤ length tried → first ≡ F.Refused r
+pub inputs_refused : {list profile : List ℕ} (tried after : List ℕ) (none : Tally) (first : Result ℕ Refusal) (r : Refusal) → 65536 ≤ length tried → first ≡ Err r
     → ReportsTally list profile none tried (filling_answer reported first after) → InputsRefused list profile true
 inputs_refused {list} {profile} tried after none first r room e stop =
     record {
       told = λ same.
           stopped_by_inputs list profile none tried (meant r) after room
-          (subst (λ (f : Filling). ReportsTally list profile none tried (filling_answer reported f after)) e stop);
+          (subst (λ (f : Result ℕ Refusal). ReportsTally list profile none tried (filling_answer reported f after)) e stop);
     }
 
 pub inputs_pass : (list profile : List ℕ) → InputsRefused list profile false
 inputs_pass list profile = record { told = λ e. absurd (true≢false (sym e)) }
+
+pub inputs_judged : {list profile : List ℕ} (tried after : List ℕ) (none : Tally) (first : Result ℕ Refusal) → 65536 ≤ length tried
+    → ReportsTally list profile none tried (filling_answer reported first after) → InputsRefused list profile (is_err first)
+inputs_judged {list} {profile} tried after none (Ok used) room stop = inputs_pass list profile
+inputs_judged tried after none (Err r) room stop = inputs_refused tried after none (Err r) r room refl stop
 
 -- .. and no input is asked for
 pub campaign_stopped : {list profile buffer : List ℕ} {answer : Answer} {refuses : Bool} (t : Tally) → InputsRefused list profile refuses → refuses ≡ true

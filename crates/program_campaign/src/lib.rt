@@ -1,4 +1,4 @@
-// A campaign over files (document 02, request 12): each name of the list is opened, read and counted; the library sees one segment's bytes at a time.
+// A campaign over files: each name of the list is opened, read and counted; the library sees one segment's bytes at a time.
 // The loop carries that the tally is that of as many inputs as names are done, so what is printed is the exact report over that list of inputs; that
 // each is what its file held is assumed of the system's calls.
 #![tactic(auto)]
@@ -8,10 +8,10 @@ ghost use Rattle.op_answers.specs.Cases.{filling_answer};
 ghost use Rattle.op_tally.specs.Counting.{tally_of};
 ghost use Rattle.program_campaign.specs.Inputs.{AddsInput, NamesCounted, InputsRefused, IsCampaign};
 
-use op_answers::Filling;
+use op_answers::Refusal;
 use op_campaign::{count_segment, report};
 use op_tally::{Tally, count_unread, no_counts};
-use program_files::{ANSWER_ROOM, TREE_READ, part_read, read_named, unread};
+use program_files::{ANSWER_ROOM, TREE_READ, read_named};
 use read_names::{after_name, first_name, name_count};
 use std::io;
 use std::io::{IsTerminal, Write};
@@ -22,11 +22,10 @@ fn count_name(rt: &impl Files, name: &[u8], profile: &[u8], t: Tally) -> Tally
     ensures { AddsInput profile.now (tally_of t) (tally_of result) }
 {
     let mut tree = [0u8; TREE_READ];
-    let reading = read_named(rt, name, &mut tree);
-    if unread(reading) {
-        return count_unread(t);
+    match read_named(rt, name, &mut tree) {
+        Some(count) => count_segment(profile, &tree[..count], t),
+        None => count_unread(t),
     }
-    count_segment(profile, part_read(reading, &tree), t)
 }
 
 // Segments done, of how many, over the line before.
@@ -59,11 +58,10 @@ fn count_names(
     let mut rest = list;
     let mut t = no_counts();
     let mut done = 0;
-    while 0 < rest.len() {
-        let name = first_name(rest);
-        t = count_name(rt, name, profile, t);
-        let next = after_name(rest);
-        rest = next;
+    // Stays a `while`: because a name ends where the next begins; the rest gets shorter, and nothing is counted.
+    while !rest.is_empty() {
+        t = count_name(rt, first_name(rest), profile, t);
+        rest = after_name(rest);
         done += 1;
         show_progress(progress, terminal, done, names);
     }
@@ -75,11 +73,7 @@ fn inputs_refused(list: &[u8], profile: &[u8]) -> bool
     ensures { InputsRefused list.now profile.now result }
 {
     let mut tried = [0u8; ANSWER_ROOM];
-    let first = report(list, profile, no_counts(), &mut tried);
-    match first {
-        Filling::Refused(_) => true,
-        Filling::Filled(_) => false,
-    }
+    report(list, profile, no_counts(), &mut tried).is_err()
 }
 
 // The report of the campaign at the front of the answer buffer; every byte behind it stays, and a refusal changes none.
@@ -89,7 +83,7 @@ pub fn report_campaign(
     list: &[u8],
     profile: &[u8],
     answer: &mut [u8],
-) -> Filling
+) -> Result<usize, Refusal>
     ensures { IsCampaign list.now profile.now answer.old (filling_answer reported result answer.new) }
 {
     if inputs_refused(list, profile) {

@@ -1,23 +1,10 @@
-// Numbers and columns on standard output.
-use crate::parts::{less, part};
-use program_files::print;
+// Columns on standard output.
+use crate::parts::part;
 use std::io;
-
-const TEN: usize = 10;
-
-pub fn print_number(rt: &impl Print, n: usize) -> io::Result<()> {
-    rt.print(n)
-}
 
 // How many digits a number has.
 pub fn digits(n: usize) -> usize {
-    let mut rest = n;
-    let mut count = 1;
-    while TEN <= rest {
-        rest = rest / TEN;
-        count += 1;
-    }
-    count
+    n.checked_ilog10().map_or(1, |power| power as usize + 1)
 }
 
 // As many as one call writes.
@@ -25,16 +12,8 @@ const SPACES: usize = 64;
 
 pub fn print_spaces(rt: &impl Print, count: usize) -> io::Result<()> {
     let blank = [b' '; SPACES];
-    let mut left = count;
-    while SPACES <= left {
-        print(rt, &blank)?;
-        left -= SPACES;
+    for _ in 0..count / SPACES {
+        rt.write_all(&blank)?;
     }
-    print(rt, part(&blank, 0, left))
-}
-
-// A number at the right end of so many places.
-pub fn print_right(rt: &impl Print, n: usize, width: usize) -> io::Result<()> {
-    print_spaces(rt, less(width, digits(n)))?;
-    print_number(rt, n)
+    rt.write_all(part(&blank, 0, count % SPACES))
 }

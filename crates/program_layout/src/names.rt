@@ -1,6 +1,5 @@
 // The names of labels, as keys in plain text have them: `@` before attributes, `#` for text; and of the labels that no profile declares.
 use crate::parts::{after_record, byte_at, first_record, part, record_kind};
-use program_files::print;
 use read_record::bodies::LABEL_KIND;
 use read_record::limits::{FILLER_ATTRIBUTE, FILLER_ELEMENT, ROOT_LABEL, TEXT};
 use std::io;
@@ -16,49 +15,42 @@ pub const ATTRIBUTE_CLASS: usize = 2;
 
 // What the class of a node's label is: attributes and text have values.
 pub fn has_value(profile: &[u8], label: usize) -> bool {
-    if label == TEXT {
-        return true;
-    }
-    if label == FILLER_ATTRIBUTE {
-        return true;
-    }
-    byte_at(label_record(profile, label), CLASS_AT) == ATTRIBUTE_CLASS
+    label == TEXT
+        || label == FILLER_ATTRIBUTE
+        || byte_at(label_record(profile, label), CLASS_AT) == ATTRIBUTE_CLASS
 }
 
 fn declares(record: &[u8], label: usize) -> bool {
-    if record_kind(record) != LABEL_KIND {
-        return false;
-    }
-    byte_at(record, NUMBER_AT) == label
+    record_kind(record) == LABEL_KIND && byte_at(record, NUMBER_AT) == label
 }
 
 // The record that declares a label: the empty part where none does.
 pub fn label_record(profile: &[u8], label: usize) -> &[u8] {
     let mut rest = profile;
-    while 0 < rest.len() {
+    // Stays a `while`: because the rest gets shorter until its label stands at the front; nothing is counted.
+    while !rest.is_empty() {
         let record = first_record(rest);
         if declares(record, label) {
             return record;
         }
-        let next = after_record(rest);
-        rest = next;
+        rest = after_record(rest);
     }
     rest
 }
 
 fn print_declared(rt: &impl Print, record: &[u8]) -> io::Result<()> {
     if byte_at(record, CLASS_AT) == ATTRIBUTE_CLASS {
-        print(rt, b"@")?;
+        print!(rt; "@")?;
     }
-    print(rt, part(record, NAME_AT, record.len()))
+    rt.write_all(part(record, NAME_AT, record.len()))
 }
 
 pub fn print_label(rt: &impl Print, profile: &[u8], label: usize) -> io::Result<()> {
     match label {
-        TEXT => print(rt, b"#"),
-        ROOT_LABEL => print(rt, b"root"),
-        FILLER_ELEMENT => print(rt, b"any"),
-        FILLER_ATTRIBUTE => print(rt, b"@any"),
+        TEXT => print!(rt; "#"),
+        ROOT_LABEL => print!(rt; "root"),
+        FILLER_ELEMENT => print!(rt; "any"),
+        FILLER_ATTRIBUTE => print!(rt; "@any"),
         _ => print_declared(rt, label_record(profile, label)),
     }
 }

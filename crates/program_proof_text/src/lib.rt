@@ -1,4 +1,4 @@
-// A proof that the check accepts, "a numbered line each, the key, the rule by 01's name and what it was taken from". The keys' texts are answers of
+// A proof that the check accepts, "a numbered line each, the key, the rule by its name and what it was taken from". The keys' texts are answers of
 // `op_proof_line`.
 #![tactic(auto)]
 

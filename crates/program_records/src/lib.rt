@@ -2,25 +2,25 @@
 // put together here is judged by the readers of the operations, so that nothing is trusted of it.
 #![tactic(auto)]
 
+ghost use Rattle.std.specs.Prelude.{◌+◌, ◌≤◌, length};
+ghost use Rattle.std.specs.Bool.{Decides};
+
 use read_record::fields::BYTE;
 use write_bytes::put;
 
-pub fn has_room(out: &[u8], at: usize, more: usize) -> bool {
-    if out.len() < at {
-        return false;
-    }
-    more <= out.len() - at
+pub fn has_room(out: &[u8], at: usize, more: usize) -> bool
+    ensures { Decides result (at + more ≤ length out.now) }
+{
+    at <= out.len() && more <= out.len() - at
 }
 
 // The bytes as they are; the place behind them.
 pub fn append(out: &mut [u8], at: usize, bytes: &[u8]) -> usize {
-    if out.len() < at {
-        return at;
+    if has_room(out, at, bytes.len()) {
+        put(out, at, bytes)
+    } else {
+        at
     }
-    if out.len() - at < bytes.len() {
-        return at;
-    }
-    put(out, at, bytes)
 }
 
 // A number's lowest byte.

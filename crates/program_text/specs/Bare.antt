@@ -22,12 +22,7 @@ pub bare_plain : (l : List ℕ) → (get_or l (length l - 1) 0 ≡ 10 → ⊥) �
 unfolding bare_line
 bare_plain l h = rw (ne_eqb (get_or l (length l - 1) 0) 10 h)
 
--- return by return
-pub bare_empty : (l : List ℕ) → length l ≡ 0 → l ≡ bare_line l
-unfolding bare_line
-bare_empty [] h = refl
-bare_empty (b ∷ l) h = absurd (omega arith)
-
+-- the newline is taken off
 pub bare_cut : (l : List ℕ) → get_or l (length l - 1) 0 ≡ 10 → take (length l - 1) l ≡ bare_line l
 unfolding bare_line
 bare_cut l h = rw (eq-eqb (get_or l (length l - 1) 0) 10 h)

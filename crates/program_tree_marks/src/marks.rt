@@ -1,140 +1,104 @@
 // The marks of a node: what the witness has it for.
 ghost use Rattle.std.specs.Prelude.{◌≤◌};
 
-use crate::nodes::at_most;
+use crate::nodes::{label_of, node};
 use crate::paths::key_path;
 use op_answers::Witness;
-use program_files::print;
 use read_record::limits::FILLER_ATTRIBUTE;
 use std::io;
 
 // A question has at most 4 key paths.
 pub const KEY_PATHS: usize = 4;
 
-#[derive(Clone, Copy)]
+#[derive(Clone, Copy, Debug, PartialEq, Eq)]
 pub struct Pair {
     pub x: usize,
     pub y: usize,
 }
 
-// The value-equal pair of a key path.
-pub fn pair_of(witness: Witness, j: usize) -> Pair {
-    match j {
-        0 => Pair {
-            x: witness.x0,
-            y: witness.y0,
-        },
-        1 => Pair {
-            x: witness.x1,
-            y: witness.y1,
-        },
-        2 => Pair {
-            x: witness.x2,
-            y: witness.y2,
-        },
-        _ => Pair {
-            x: witness.x3,
-            y: witness.y3,
-        },
+impl Pair {
+    pub fn has(self, n: usize) -> bool {
+        n == self.x || n == self.y
     }
 }
 
-pub fn path_count(witness: Witness) -> usize
-    ensures { result ≤ 4 }
-{
-    at_most(witness.paths, KEY_PATHS)
+// A tree that breaks a question, as it is shown: the profile has its labels' names, the witness its marks, and a mark of a pair names a key path of
+// the question, in plain text.
+#[derive(Clone, Copy, Debug)]
+pub struct Broken<'a> {
+    pub profile: &'a [u8],
+    pub tree: &'a [u8],
+    pub witness: Witness,
+    pub paths: &'a [u8],
 }
 
-pub fn in_pair(witness: Witness, j: usize, n: usize) -> bool {
-    let pair = pair_of(witness, j);
-    if n == pair.x {
-        return true;
+impl<'a> Broken<'a> {
+    // The value-equal pairs, one for each key path; what stands behind them is no pair.
+    pub fn pairs(&self) -> [Pair; KEY_PATHS] {
+        let w = self.witness;
+        [
+            Pair { x: w.x0, y: w.y0 },
+            Pair { x: w.x1, y: w.y1 },
+            Pair { x: w.x2, y: w.y2 },
+            Pair { x: w.x3, y: w.y3 },
+        ]
     }
-    n == pair.y
-}
 
-// The first key path of whose pair the node is: their number where it is of none.
-pub fn first_pair(witness: Witness, n: usize) -> usize {
-    let count = path_count(witness);
-    let mut j = 0;
-    while j < count {
-        if in_pair(witness, j, n) {
-            return j;
+    pub fn path_count(&self) -> usize
+        ensures { result ≤ 4 }
+    {
+        self.witness.paths.min(KEY_PATHS)
+    }
+
+    pub fn key_path(&self, j: usize) -> &'a [u8] {
+        key_path(self.paths, j)
+    }
+
+    // The first key path of whose pair the node is.
+    pub fn first_pair(&self, n: usize) -> Option<usize> {
+        self.pairs()
+            .iter()
+            .take(self.path_count())
+            .position(|pair| pair.has(n))
+    }
+
+    pub fn has_mark(&self, n: usize) -> bool {
+        let w = self.witness;
+        n == w.context || n == w.first || n == w.second || self.first_pair(n).is_some()
+    }
+
+    // Attributes that only fill are left out: "fillers are .. left out where they are attributes and no mark".
+    pub fn is_shown(&self, n: usize, all: bool) -> bool {
+        all || label_of(node(self.tree, n)) != FILLER_ATTRIBUTE || self.has_mark(n)
+    }
+
+    pub fn print_marks(&self, rt: &impl Print, n: usize) -> io::Result<()> {
+        let mut told = false;
+        for (node, words) in [
+            (self.witness.context, "context"),
+            (self.witness.first, "first"),
+            (self.witness.second, "second"),
+        ] {
+            if n == node {
+                print_mark(rt, told, words, b"")?;
+                told = true;
+            }
         }
-        j += 1;
+        for (j, pair) in self.pairs().iter().take(self.path_count()).enumerate() {
+            if pair.has(n) {
+                print_mark(rt, told, "equal by ", self.key_path(j))?;
+                told = true;
+            }
+        }
+        Ok(())
     }
-    count
 }
 
-pub fn has_mark(witness: Witness, n: usize) -> bool {
-    if n == witness.context {
-        return true;
+// One more mark: a comma stands between two.
+fn print_mark(rt: &impl Print, told: bool, words: &str, path: &[u8]) -> io::Result<()> {
+    if told {
+        print!(rt; ", ")?;
     }
-    if n == witness.first {
-        return true;
-    }
-    if n == witness.second {
-        return true;
-    }
-    first_pair(witness, n) < path_count(witness)
-}
-
-// Attributes that only fill are left out: "fillers are .. left out where they are attributes and no mark".
-pub fn is_shown(witness: Witness, label: usize, n: usize, all: bool) -> bool {
-    if all {
-        return true;
-    }
-    if label != FILLER_ATTRIBUTE {
-        return true;
-    }
-    has_mark(witness, n)
-}
-
-// One more mark, where it is one; whether there is a mark now.
-fn print_mark(
-    rt: &impl Print,
-    before: bool,
-    is: bool,
-    words: &[u8],
-    path: &[u8],
-) -> io::Result<bool> {
-    if !is {
-        return Ok(before);
-    }
-    if before {
-        print(rt, b", ")?;
-    }
-    print(rt, words)?;
-    print(rt, path)?;
-    Ok(true)
-}
-
-fn print_pairs(
-    rt: &impl Print,
-    witness: Witness,
-    n: usize,
-    paths: &[u8],
-    before: bool,
-) -> io::Result<()> {
-    let count = path_count(witness);
-    let mut told = before;
-    let mut j = 0;
-    while j < count {
-        told = print_mark(
-            rt,
-            told,
-            in_pair(witness, j, n),
-            b"equal by ",
-            key_path(paths, j),
-        )?;
-        j += 1;
-    }
-    Ok(())
-}
-
-pub fn print_marks(rt: &impl Print, witness: Witness, n: usize, paths: &[u8]) -> io::Result<()> {
-    let context = print_mark(rt, false, n == witness.context, b"context", b"")?;
-    let first = print_mark(rt, context, n == witness.first, b"first", b"")?;
-    let second = print_mark(rt, first, n == witness.second, b"second", b"")?;
-    print_pairs(rt, witness, n, paths, second)
+    print!(rt; "{words}")?;
+    rt.write_all(path)
 }

@@ -2,7 +2,7 @@
 // and no more is asked of a file than that a parent's number is smaller.
 ghost use Rattle.std.specs.Prelude.{◌≤◌};
 
-use program_tree_marks::nodes::{at_most, node, node_count, parent_of};
+use program_tree_marks::nodes::{node, node_count, parent_of};
 use read_record::limits::TREE_NODES;
 
 // The largest number that a node may have
@@ -12,7 +12,7 @@ const LAST_NODE: usize = 4095;
 pub fn node_number(n: usize) -> usize
     ensures { result ≤ 4095 }
 {
-    at_most(n, LAST_NODE)
+    n.min(LAST_NODE)
 }
 
 fn parent_number(tree: &[u8], n: usize) -> usize
@@ -22,18 +22,15 @@ fn parent_number(tree: &[u8], n: usize) -> usize
 }
 
 fn sum(size: usize, other: usize) -> usize {
-    at_most(size, TREE_NODES) + at_most(other, TREE_NODES)
+    size.min(TREE_NODES) + other.min(TREE_NODES)
 }
 
 // How many nodes each branch has, its own first node among them: from the back, each is counted to its parent's.
 fn branch_sizes(tree: &[u8]) -> [usize; TREE_NODES] {
     let mut sizes = [1; TREE_NODES];
-    let mut n = node_count(tree);
-    while 1 < n {
-        n -= 1;
+    for n in (1..node_count(tree)).rev() {
         let parent = parent_number(tree, n);
-        let size = sum(sizes[parent], sizes[n]);
-        sizes[parent] = size;
+        sizes[parent] = sum(sizes[parent], sizes[n]);
     }
     sizes
 }
@@ -41,17 +38,14 @@ fn branch_sizes(tree: &[u8]) -> [usize; TREE_NODES] {
 // The numbers of the nodes in that order. `next` has for each node the place of its next child.
 pub fn by_branch(tree: &[u8]) -> [usize; TREE_NODES] {
     let sizes = branch_sizes(tree);
-    let count = node_count(tree);
     let mut next = [1; TREE_NODES];
     let mut order = [0; TREE_NODES];
-    let mut n = 1;
-    while n < count {
+    for n in 1..node_count(tree) {
         let parent = parent_number(tree, n);
         let place = node_number(next[parent]);
         order[place] = n;
         next[parent] = sum(place, sizes[n]);
         next[n] = place + 1;
-        n += 1;
     }
     order
 }

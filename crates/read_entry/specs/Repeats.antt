@@ -29,6 +29,9 @@ pub record Search (start : ℕ) (part : List ℕ) (left : ℕ) (rest : List ℕ)
   pub records : Standing start left rest
   pub here : any_record start part left rest ≡ w
 
+pub search_start : {start n left : ℕ} {part bytes : List ℕ} → 2 ≤ start → Standing start n bytes → left ≡ n → Search start part left bytes (any_record start part n bytes)
+search_start low records e = rw e (record { low = low; records = records; here = refl })
+
 -- the record at its front
 record Front (start : ℕ) (part : List ℕ) (left : ℕ) (rest : List ℕ) (w : Bool) : Type 0 where
   room : start ≤ record_length rest
@@ -68,9 +71,9 @@ module _ {start : ℕ} {part : List ℕ} {left : ℕ} {rest : List ℕ} {w : Boo
     pub search_found : r ≡ true → true ≡ w
     search_found q = rw (front_test q) at (search_front s h).asked
 
-    pub search_next : r ≡ false → Search start part (left - 1) (take (length rest - end) (drop end rest)) w
-    search_next q =
-        rw (part_to_end rest end, e ∙ long)
+    pub search_next : r ≡ false → {fewer : ℕ} → fewer ≡ left - 1 → Search start part fewer (take (length rest - end) (drop end rest)) w
+    search_next q f =
+        rw (f, part_to_end rest end, e ∙ long)
         (record { low = s.low; records = (search_front s h).others; here = rw (front_test q) at (search_front s h).asked })
       where
         long : word rest 0 ≡ record_length rest

@@ -2,12 +2,14 @@
 ghost use Rattle.std.specs.Prelude.{◌≡◌, []};
 ghost use Rattle.meaning.specs.Refusals.{first_of};
 ghost use Rattle.theory_records.specs.HeadTests.{head_tests};
+ghost use Rattle.read_judged.specs.Answers.{told};
 ghost use Rattle.read_entry.specs.Keys.{key_record_tests_by, line_tests_by};
 
-use read_judged::{NOT_ALLOWED, NOT_WHOLE, TOO_LARGE};
-use read_key::refusal::key_refusal;
+use read_judged::RefusalKind;
+use read_key::refusal::{Limits, key_refusal};
 use read_record::bodies::{KEY_KIND, LINE_KIND, whole};
 use read_record::fields::{HEAD_BYTES, KIND_AT, too_many, word};
+use read_record::key::Key;
 use read_record::limits::{KEY_IN_LINE, LINE_SYMBOLS};
 
 // "profile .. 64 keys"; "proof .. 256 lines"
@@ -15,64 +17,50 @@ const PROFILE_KEYS: usize = 64;
 
 const PROOF_LINES: usize = 256;
 // "a path of 8 symbols and 4 key paths in profile and question"
-const SYMBOLS: usize = 8;
-
-const PATH_SYMBOLS: usize = 8;
-
-const KEY_PATHS: usize = 4;
+pub const KEY_LIMITS: Limits = Limits {
+    symbols: 8,
+    path_symbols: 8,
+    paths: 4,
+};
 // "In a proof line, C and T may have 32 symbols, and there may be 64 key paths of 16."
-const LINE_PATH_SYMBOLS: usize = 16;
+const LINE_LIMITS: Limits = Limits {
+    symbols: LINE_SYMBOLS,
+    path_symbols: 16,
+    paths: 64,
+};
 
-const LINE_KEY_PATHS: usize = 64;
-
-// 7, 1 or 2 of the record at the front, which is to be of this kind and stands after so many; 0 where it is none of them.
-fn judge_head(rest: &[u8], kind: usize, limit: usize, count: usize) -> usize
-    ensures { result ≡ first_of (head_tests kind limit count rest.now []) }
+// 7, 1 or 2 of the record at the front, which is to be of this kind and stands after so many.
+fn judge_head(rest: &[u8], kind: usize, limit: usize, count: usize) -> Result<(), RefusalKind>
+    ensures { told result ≡ first_of (head_tests kind limit count rest.now []) }
 {
     if too_many(rest, kind, limit, count) {
-        return TOO_LARGE;
+        return Err(RefusalKind::TooLarge);
     }
     if !whole(rest) {
-        return NOT_WHOLE;
+        return Err(RefusalKind::NotWhole);
     }
     if word(rest, KIND_AT) != kind {
-        return NOT_ALLOWED;
+        return Err(RefusalKind::NotAllowed);
     }
-    0
+    Ok(())
 }
 
-// The number that the key record at the front gives, after so many keys: 7, 1, 2, then 4, 5, 6.
-pub fn judge_key(rest: &[u8], keys: usize, classes: &[u8; 256]) -> usize
-    ensures { result ≡ first_of (key_record_tests_by classes.now keys rest.now) }
+// The key record at the front, after so many keys: 7, 1, 2, then 4, 5, 6.
+pub fn judge_key(rest: &[u8], keys: usize, classes: &[u8; 256]) -> Result<(), RefusalKind>
+    ensures { told result ≡ first_of (key_record_tests_by classes.now keys rest.now) }
 {
-    let head = judge_head(rest, KEY_KIND, PROFILE_KEYS, keys);
-    if head != 0 {
-        return head;
-    }
+    judge_head(rest, KEY_KIND, PROFILE_KEYS, keys)?;
     let end = word(rest, 0);
-    key_refusal(
-        &rest[HEAD_BYTES..end],
-        classes,
-        SYMBOLS,
-        PATH_SYMBOLS,
-        KEY_PATHS,
-    )
+    let key = Key::new(&rest[HEAD_BYTES..end]);
+    key_refusal(&key, classes, KEY_LIMITS)
 }
 
-// The number that the proof line at the front gives, after so many lines: 7, 1, 2, then 4, 5, 6. (Whether it follows, 9, is not asked here.)
-pub fn judge_line(rest: &[u8], classes: &[u8; 256], lines: usize) -> usize
-    ensures { result ≡ first_of (line_tests_by classes.now lines rest.now) }
+// The proof line at the front, after so many lines: 7, 1, 2, then 4, 5, 6. (Whether it follows, 9, is not asked here.)
+pub fn judge_line(rest: &[u8], classes: &[u8; 256], lines: usize) -> Result<(), RefusalKind>
+    ensures { told result ≡ first_of (line_tests_by classes.now lines rest.now) }
 {
-    let head = judge_head(rest, LINE_KIND, PROOF_LINES, lines);
-    if head != 0 {
-        return head;
-    }
+    judge_head(rest, LINE_KIND, PROOF_LINES, lines)?;
     let end = word(rest, 0);
-    key_refusal(
-        &rest[KEY_IN_LINE..end],
-        classes,
-        LINE_SYMBOLS,
-        LINE_PATH_SYMBOLS,
-        LINE_KEY_PATHS,
-    )
+    let key = Key::new(&rest[KEY_IN_LINE..end]);
+    key_refusal(&key, classes, LINE_LIMITS)
 }

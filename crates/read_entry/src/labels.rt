@@ -6,7 +6,6 @@ ghost use Rattle.read_entry.specs.Labels.{Highest, labels_at, is_class};
 ghost use Rattle.read_entry.specs.Repeats.{Standing};
 
 use crate::repeats::part_used;
-use read_record::fields::wide;
 use read_record::names::is_name;
 
 // "Labels 2 to 200 are declared as element or attribute."
@@ -28,10 +27,7 @@ const NAME_IN_RECORD: usize = 6;
 fn is_class(class: usize) -> bool
     ensures { result ≡ is_class class }
 {
-    if class == ELEMENT {
-        return true;
-    }
-    class == ATTRIBUTE
+    class == ELEMENT || class == ATTRIBUTE
 }
 
 // 3: "label number outside 2..200 or not ascending; class; name ill-formed or used before"
@@ -39,7 +35,7 @@ pub fn good_label(bytes: &[u8], count: usize, last: usize, body: &[u8]) -> bool
     requires { Standing 6 count bytes.now × Highest (labels_at count bytes.now) last × (2 ≤ length body.now) }
     ensures { result ≡ good_label (labels_at count bytes.now) (read_label body.now) }
 {
-    let number = wide(body[0]);
+    let number = usize::from(body[0]);
     if number < FIRST_DECLARED {
         return false;
     }
@@ -49,7 +45,7 @@ pub fn good_label(bytes: &[u8], count: usize, last: usize, body: &[u8]) -> bool
     if number <= last {
         return false;
     }
-    if !is_class(wide(body[CLASS_AT])) {
+    if !is_class(usize::from(body[CLASS_AT])) {
         return false;
     }
     let name = &body[NAME_AT..];

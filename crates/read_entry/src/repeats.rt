@@ -3,7 +3,6 @@ ghost use Rattle.std.specs.Prelude.{◌≡◌, ◌≤◌};
 ghost use Rattle.read_entry.specs.Repeats.{Standing, any_record};
 
 use read_record::fields::word;
-use read_record::names::same_bytes;
 
 // One of the first records has these bytes from `start` to its end.
 pub fn part_used(bytes: &[u8], count: usize, start: usize, part: &[u8]) -> bool
@@ -11,14 +10,12 @@ pub fn part_used(bytes: &[u8], count: usize, start: usize, part: &[u8]) -> bool
     ensures { result ≡ any_record start part.now count bytes.now }
 {
     let mut rest = bytes;
-    let mut left = count;
-    while 0 < left {
+    for _ in 0..count {
         let end = word(rest, 0);
-        if same_bytes(&rest[start..end], part) {
+        if &rest[start..end] == part {
             return true;
         }
         rest = &rest[end..];
-        left -= 1;
     }
     false
 }

@@ -1,10 +1,11 @@
 -- An accepted profile, and an accepted question beside it, as the readers tell them: what stands behind the prologue of every operation.
-use Rattle.std.specs.Prelude.{ℕ, ◌+◌, ◌≡◌, Bool, List, length}
-use Rattle.meaning.specs.Refusals.{profile_refusal, question_refusal, first_entry}
+use Rattle.std.specs.Prelude.{ℕ, ◌+◌, ◌≡◌, Bool, Result, Ok, Err, List, length}
+use Rattle.meaning.specs.Refusals.{sound, profile_refusal, question_refusal, first_entry}
 use Rattle.meaning.specs.Operations.{labels_in, keys_in, second_in}
 use Rattle.read_record.specs.Classes.{Tabled}
-use Rattle.read_judged.specs.declared.Judged.{Judged}
-use Rattle.read_inputs.specs.ProfileWalks.{ProfileSays}
+use Rattle.read_judged.specs.Answers.{refusal_of}
+use Rattle.read_judged.specs.declared.Fault.{Fault}
+use Rattle.read_inputs.specs.declared.profile.Profile.{Profile}
 
 -- an accepted profile, its edition, how many records stand before its keys and how many keys it has, its classes
 pub record GivenProfile (profile : List ℕ) (second : Bool) (before keys : ℕ) (classes : List ℕ) : Type 0 where
@@ -23,16 +24,10 @@ pub record Given (profile : List ℕ) (second : Bool) (before keys : ℕ) (quest
   pub tabled : Tabled (labels_in profile) classes
   pub accepted_question : (question_refusal (labels_in profile) question).number ≡ 0
 
-pub given_profile : {profile classes : List ℕ} {judged : Judged} {second : Bool} {before keys : ℕ} → ProfileSays profile judged classes second before keys
-    → (profile_refusal profile).number ≡ 0 → GivenProfile profile second before keys classes
-given_profile says p =
-    record {
-      accepted_profile = p;
-      edition = says.edition p;
-      before_keys = says.before_keys p;
-      key_count = says.key_count p;
-      tabled = says.tabled p;
-    }
+-- What reading a profile comes to: its own refusal, or what it says
+abbrev pub ProfileTold : List ℕ → Result Profile Fault → Type 0
+ProfileTold bytes (Ok p) = (sound ≡ profile_refusal bytes) × GivenProfile bytes p.second p.before p.keys p.classes
+ProfileTold bytes (Err fault) = refusal_of {A = Profile} 1 (Err fault) ≡ profile_refusal bytes
 
 pub given_both : {profile classes question : List ℕ} {second : Bool} {before keys : ℕ} → GivenProfile profile second before keys classes
     → (question_refusal (labels_in profile) question).number ≡ 0 → Given profile second before keys question classes

@@ -1,5 +1,5 @@
 -- What reading a profile comes to, beside `profile_refusal`, `labels_in` and `keys_in` of `meaning`.
-use Rattle.std.specs.Prelude.{ℕ, zero, suc, ◌+◌, ◌≤◌, ◌<◌, ◌≡◌, refl, Bool, false, not, eqb, get_or, drop}
+use Rattle.std.specs.Prelude.{ℕ, zero, suc, ◌+◌, ◌≤◌, ◌<◌, ◌≡◌, refl, Bool, false, not, Result, Ok, Err, eqb, get_or, drop}
 use Rattle.std.proofs.Math.Path.{sym, subst, ap, ap₂}
 use Rattle.std.proofs.Common.{◌∙◌, arith}
 use Rattle.std.proofs.Math.Bool.{true}
@@ -8,12 +8,13 @@ use borrow.Author.Tests.{le-ltb, lt-ltb, eq-eqb, ne_eqb, eqb-true, not-true, not
 use Rattle.std.proofs.Math.ListN.{length}
 use Rattle.meaning.specs.Paths.{Label}
 use Rattle.meaning.specs.Records.{word, record_length, record_kind, record_body}
-use Rattle.meaning.specs.Refusals.{Refusal, first_refusal, oversize, Walked, walk, whole, Profile, no_profile, profile_tests, profile_next, has_edition, behind_edition, first_entry, edition_refusal, profile_walked, profile_in, profile_refusal}
+use Rattle.meaning.specs.Refusals.{Refusal, sound, first_refusal, oversize, Walked, walk, whole, Profile as Read, no_profile, profile_tests, profile_next, has_edition, behind_edition, first_entry, edition_refusal, profile_walked, profile_in, profile_refusal}
 use Rattle.meaning.specs.Operations.{second_in, labels_in, keys_in}
 use Rattle.read_record.specs.Classes.{Tabled}
 use Rattle.read_judged.specs.Answers.{refusal_of}
-use Rattle.read_judged.specs.declared.Judged.{Judged}
-use Rattle.read_judged.specs.declared.Judged.TheVariants.{Sound, Refused}
+use Rattle.read_judged.specs.declared.Fault.{Fault}
+use Rattle.read_inputs.specs.declared.profile.Profile.{Profile}
+use Rattle.read_inputs.specs.Accepted.{GivenProfile, ProfileTold}
 use Rattle.theory_records.specs.Tests.{both}
 use Rattle.theory_records.specs.Heads.{whole_says, body_length}
 use Rattle.theory_records.specs.Encodings.{ends_edition}
@@ -24,67 +25,50 @@ use Rattle.read_entry.specs.Agree.{is_label_record}
 use Rattle.read_profile_keys.specs.KeyWalks.{labelled, KeysCame, KeysSay}
 use Rattle.read_inputs.specs.LabelWalks.{LabelLoop}
 
--- The answer: the refusal for every byte string, and of an accepted profile the class table, its edition, and how many records stand before the keys
--- and how many keys there are
-pub record ProfileSays (bytes : List ℕ) (judged : Judged) (classes : List ℕ) (second : Bool) (before keys : ℕ) : Type 0 where
-  pub refusal : refusal_of 1 judged ≡ profile_refusal bytes
-  pub tabled : (profile_refusal bytes).number ≡ 0 → Tabled (labels_in bytes) classes
-  pub edition : (profile_refusal bytes).number ≡ 0 → second ≡ second_in bytes
-  pub before_keys : (profile_refusal bytes).number ≡ 0 → before ≡ first_entry bytes + length (labels_in bytes)
-  pub key_count : (profile_refusal bytes).number ≡ 0 → keys ≡ length (keys_in bytes)
-
 -- What the labels and keys come to, from record number `first` on
-abbrev entries_from : ℕ → List ℕ → Walked Profile
+abbrev entries_from : ℕ → List ℕ → Walked Read
 entries_from first bytes = walk profile_tests profile_next 0 first no_profile bytes
 
-pub record EntriesSay (first : ℕ) (bytes : List ℕ) (judged : Judged) (classes : List ℕ) (before keys : ℕ) : Type 0 where
-  pub refusal : refusal_of 1 judged ≡ first_refusal (record { number = (entries_from first bytes).number; input = 1; place = (entries_from first bytes).at } ∷ [])
-  pub tabled : (entries_from first bytes).number ≡ 0 → Tabled (entries_from first bytes).state.labels classes
-  pub before_keys : (entries_from first bytes).number ≡ 0 → before ≡ first + length (entries_from first bytes).state.labels
-  pub key_count : (entries_from first bytes).number ≡ 0 → keys ≡ length (entries_from first bytes).state.keys
+-- they come to no refusal, and this is what they say
+pub record EntriesSay (first : ℕ) (bytes classes : List ℕ) (before keys : ℕ) : Type 0 where
+  pub accepted : (entries_from first bytes).number ≡ 0
+  pub tabled : Tabled (entries_from first bytes).state.labels classes
+  pub before_keys : before ≡ first + length (entries_from first bytes).state.labels
+  pub key_count : keys ≡ length (entries_from first bytes).state.keys
+
+-- their refusal, as a profile's
+pub entries_refusal : ℕ → List ℕ → Refusal
+entries_refusal first bytes = first_refusal (record { number = (entries_from first bytes).number; input = 1; place = (entries_from first bytes).at } ∷ [])
+
+entries_sound : (first : ℕ) (bytes : List ℕ) → (entries_from first bytes).number ≡ 0 → entries_refusal first bytes ≡ sound
+unfolding entries_refusal first_refusal
+entries_sound first bytes e = rw e
+
+-- the first fault, or what they say
+abbrev pub EntriesTold : ℕ → List ℕ → Bool → Result Profile Fault → Type 0
+EntriesTold first bytes second (Ok p) = EntriesSay first bytes p.classes p.before p.keys × (p.second ≡ second)
+EntriesTold first bytes second (Err fault) = refusal_of {A = Profile} 1 (Err fault) ≡ entries_refusal first bytes
 
 labels_length : (n : ℕ) (l : List ℕ) → length (labels_at n l) ≡ n
 unfolding labels_at
 labels_length zero l = refl
 labels_length (suc n) l = ap suc (labels_length n (drop (record_length l) l))
 
--- a refusal says nothing more
-refused_says : (bytes : List ℕ) (r n : ℕ) (classes : List ℕ) (second : Bool) (before keys : ℕ) → (r ≡ 0 → ⊥)
-    → record { number = r; input = 1; place = n } ≡ profile_refusal bytes → ProfileSays bytes (Refused r n) classes second before keys
-refused_says bytes r n classes second before keys h e =
-    record {
-      refusal = e;
-      tabled = λ q. absurd (h (ap (λ (x : Refusal). x.number) e ∙ q));
-      edition = λ q. absurd (h (ap (λ (x : Refusal). x.number) e ∙ q));
-      before_keys = λ q. absurd (h (ap (λ (x : Refusal). x.number) e ∙ q));
-      key_count = λ q. absurd (h (ap (λ (x : Refusal). x.number) e ∙ q));
-    }
-
-over_refusal : (bytes : List ℕ) → 16384 < length bytes → record { number = 7; input = 1; place = 0 } ≡ profile_refusal bytes
+-- 7: the profile's size
+pub over_refusal : (bytes : List ℕ) → 16384 < length bytes → record { number = 7; input = 1; place = 0 } ≡ profile_refusal bytes
 unfolding profile_refusal first_refusal oversize
 over_refusal bytes h = rw (lt-ltb 16384 (length bytes) h)
 
-pub profile_over : (bytes classes : List ℕ) (second : Bool) → 16384 < length bytes → ProfileSays bytes (Refused 7 0) classes second 0 0
-profile_over bytes classes second h = refused_says bytes 7 0 classes second 0 0 (λ q. omega arith) (over_refusal bytes h)
-
 -- the labels and keys, return by return
-entries_refused : (first : ℕ) (bytes : List ℕ) (r n : ℕ) (p : Profile) (classes : List ℕ) (before keys : ℕ) → (r ≡ 0 → ⊥)
-    → entries_from first bytes ≡ record { number = r; at = n; state = p } → EntriesSay first bytes (Refused r n) classes before keys
-unfolding first_refusal
-entries_refused first bytes r n p classes before keys h e =
-    let never : ((entries_from first bytes).number ≡ 0 → ⊥) = λ q. h (sym (ap (λ (w : Walked Profile). w.number) e) ∙ q) in
-    record {
-      refusal = rw (e, ne_eqb r 0 h);
-      tabled = λ q. absurd (never q);
-      before_keys = λ q. absurd (never q);
-      key_count = λ q. absurd (never q);
-    }
+entries_refused : (first : ℕ) (bytes : List ℕ) (r n : ℕ) (p : Read) → (r ≡ 0 → ⊥)
+    → entries_from first bytes ≡ record { number = r; at = n; state = p } → record { number = r; input = 1; place = n } ≡ entries_refusal first bytes
+unfolding first_refusal entries_refusal
+entries_refused first bytes r n p h e = rw (e, ne_eqb r 0 h)
 
-pub profile_label : (first : ℕ) {bytes classes : List ℕ} (labels : ℕ) {before : ℕ}
+pub profile_label : (first : ℕ) (bytes : List ℕ) (labels : ℕ)
     → entries_from first bytes ≡ record { number = 3; at = first + labels; state = labelled (labels_at labels bytes) }
-    → EntriesSay first bytes (Refused 3 (first + labels)) classes before 0
-profile_label first {bytes} {classes} labels {before} e =
-    entries_refused first bytes 3 (first + labels) (labelled (labels_at labels bytes)) classes before 0 (λ q. omega arith) e
+    → record { number = 3; input = 1; place = first + labels } ≡ entries_refusal first bytes
+profile_label first bytes labels e = entries_refused first bytes 3 (first + labels) (labelled (labels_at labels bytes)) (λ q. omega arith) e
 
 module _ {first : ℕ} {bytes classes rest : List ℕ} {labels last : ℕ} (loop : LabelLoop first bytes classes rest labels last) {r keys : ℕ}
     (says : KeysSay classes rest r keys) where
@@ -94,24 +78,23 @@ module _ {first : ℕ} {bytes classes rest : List ℕ} {labels last : ℕ} (loop
   walked : entries_from first bytes ≡ record { number = r; at = first + labels + keys; state = came.state }
   walked = sym loop.walks ∙ came.walked
 
-  pub profile_key : (r ≡ 0 → ⊥) → {before : ℕ} → EntriesSay first bytes (Refused r (first + labels + keys)) classes before keys
-  profile_key h {before} = entries_refused first bytes r (first + labels + keys) came.state classes before keys h walked
+  pub profile_key : (r ≡ 0 → ⊥) → record { number = r; input = 1; place = first + labels + keys } ≡ entries_refusal first bytes
+  profile_key h = entries_refused first bytes r (first + labels + keys) came.state h walked
 
-  pub profile_sound : r ≡ 0 → EntriesSay first bytes Sound classes (first + labels) keys
-  unfolding first_refusal
+  pub profile_sound : r ≡ 0 → EntriesSay first bytes classes (first + labels) keys
   profile_sound e =
       record {
-        refusal = rw (walked, e);
-        tabled = λ q. subst (λ (ls : List Label). Tabled ls classes) (sym read_labels) loop.table;
-        before_keys = λ q. ap (λ (k : ℕ). first + k) (sym (labels_length labels bytes) ∙ sym (ap length read_labels));
-        key_count = λ q. came.counted ∙ sym (ap length read_keys);
+        accepted = ap (λ (w : Walked Read). w.number) walked ∙ e;
+        tabled = subst (λ (ls : List Label). Tabled ls classes) (sym read_labels) loop.table;
+        before_keys = ap (λ (k : ℕ). first + k) (sym (labels_length labels bytes) ∙ sym (ap length read_labels));
+        key_count = came.counted ∙ sym (ap length read_keys);
       }
     where
       read_labels : (entries_from first bytes).state.labels ≡ labels_at labels bytes
-      read_labels = ap (λ (w : Walked Profile). w.state.labels) walked ∙ came.same
+      read_labels = ap (λ (w : Walked Read). w.state.labels) walked ∙ came.same
 
       read_keys : (entries_from first bytes).state.keys ≡ came.state.keys
-      read_keys = ap (λ (w : Walked Profile). w.state.keys) walked
+      read_keys = ap (λ (w : Walked Read). w.state.keys) walked
 
 -- The edition's record, return by return
 pub edition_torn : (l : List ℕ) {b : Bool} → b ≡ whole l → not b ≡ true → false ≡ has_edition l
@@ -152,24 +135,26 @@ module _ (bytes : List ℕ) (small : length bytes ≤ 16384) {b : Bool} (told : 
 
     plain_labels : labels_in bytes ≡ (entries_from 0 bytes).state.labels
     unfolding labels_in profile_in
-    plain_labels = ap (λ (w : Walked Profile). w.state.labels) plain_walk
+    plain_labels = ap (λ (w : Walked Read). w.state.labels) plain_walk
 
-    pub profile_first : {judged : Judged} {classes : List ℕ} {second : Bool} {before keys : ℕ} → EntriesSay 0 bytes judged classes before keys
-        → second ≡ false → ProfileSays bytes judged classes second before keys
-    profile_first {judged} {classes} {second} {before} {keys} s of =
-        record {
-          refusal = s.refusal ∙ is;
-          tabled = λ q. unfold labels_in profile_in in subst (λ (w : Walked Profile). Tabled w.state.labels classes) (sym plain_walk) (s.tabled (none q));
-          edition = λ q. unfold second_in in of ∙ sym plain;
-          before_keys = λ q. s.before_keys (none q) ∙ ap₂ (λ (n : ℕ) (ls : List Label). n + length ls) (sym plain_first) (sym plain_labels);
-          key_count = λ q. unfold keys_in profile_in in subst (λ (w : Walked Profile). keys ≡ length w.state.keys) (sym plain_walk) (s.key_count (none q));
-        }
-      where
-        is : first_refusal (record { number = (entries_from 0 bytes).number; input = 1; place = (entries_from 0 bytes).at } ∷ []) ≡ profile_refusal bytes
-        is = unfold profile_refusal first_refusal oversize edition_refusal in rw (le-ltb 16384 (length bytes) small, plain, plain_walk)
+    plain_is : entries_refusal 0 bytes ≡ profile_refusal bytes
+    unfolding entries_refusal profile_refusal first_refusal oversize edition_refusal
+    plain_is = rw (le-ltb 16384 (length bytes) small, plain, plain_walk)
 
-        none : (profile_refusal bytes).number ≡ 0 → (entries_from 0 bytes).number ≡ 0
-        none q = ap (λ (w : Walked Profile). w.number) (sym plain_walk) ∙ (profile_accepts bytes q).walked
+    pub profile_first : (r : Result Profile Fault) → EntriesTold 0 bytes false r → ProfileTold bytes r
+    profile_first (Err fault) e = e ∙ plain_is
+    profile_first (Ok p) t =
+        let s = t.0 in
+        let none : profile_refusal bytes ≡ sound = sym plain_is ∙ entries_sound 0 bytes s.accepted in (
+          sym none,
+          record {
+            accepted_profile = ap (λ (x : Refusal). x.number) none;
+            edition = unfold second_in in t.1 ∙ sym plain;
+            before_keys = s.before_keys ∙ ap₂ (λ (n : ℕ) (ls : List Label). n + length ls) (sym plain_first) (sym plain_labels);
+            key_count = unfold keys_in profile_in in subst (λ (w : Walked Read). p.keys ≡ length w.state.keys) (sym plain_walk) s.key_count;
+            tabled = unfold labels_in profile_in in subst (λ (w : Walked Read). Tabled w.state.labels p.classes) (sym plain_walk) s.tabled;
+          },
+        )
 
   module _ (t : not b ≡ false) where
     second : has_edition bytes ≡ true
@@ -179,16 +164,10 @@ module _ (bytes : List ℕ) (small : length bytes ≤ 16384) {b : Bool} (told : 
     its = edition_here bytes (sym second) refl
 
     -- 3: "an edition byte other than 2"
-    pub profile_other : {k : ℕ} → k ≡ get_or bytes 4 0 → (k ≡ 2 → ⊥) → (classes : List ℕ) (second : Bool) → ProfileSays bytes (Refused 3 0) classes second 0 0
-    profile_other {k} e n classes second = refused_says bytes 3 0 classes second 0 0 (λ q. omega arith) is
-      where
-        is : record { number = 3; input = 1; place = 0 } ≡ profile_refusal bytes
-        is =
-            unfold profile_refusal first_refusal oversize edition_refusal in
-            rw (le-ltb 16384 (length bytes) small, edited, ne_eqb (get_or (record_body bytes) 0 0) 2 (λ q. n (e ∙ sym its.byte ∙ q)))
-          where
-            edited : has_edition bytes ≡ true
-            edited = sym told ∙ not-false _ t
+    pub profile_other : {k : ℕ} → k ≡ get_or bytes 4 0 → (k ≡ 2 → ⊥) → record { number = 3; input = 1; place = 0 } ≡ profile_refusal bytes
+    unfolding profile_refusal first_refusal oversize edition_refusal
+    profile_other {k} e n =
+        rw (le-ltb 16384 (length bytes) small, second, ne_eqb (get_or (record_body bytes) 0 0) 2 (λ q. n (e ∙ sym its.byte ∙ q)))
 
     second_walk : {rest : List ℕ} → rest ≡ drop 5 bytes → profile_walked bytes ≡ entries_from 1 rest
     unfolding profile_walked behind_edition first_entry
@@ -200,26 +179,28 @@ module _ (bytes : List ℕ) (small : length bytes ≤ 16384) {b : Bool} (told : 
 
     second_labels : {rest : List ℕ} → rest ≡ drop 5 bytes → labels_in bytes ≡ (entries_from 1 rest).state.labels
     unfolding labels_in profile_in
-    second_labels e = ap (λ (w : Walked Profile). w.state.labels) (second_walk e)
+    second_labels e = ap (λ (w : Walked Read). w.state.labels) (second_walk e)
 
-    pub profile_second : {k : ℕ} → k ≡ get_or bytes 4 0 → k ≡ 2 → {rest : List ℕ} → rest ≡ drop 5 bytes → {judged : Judged} {classes : List ℕ} {newer : Bool} {before keys : ℕ}
-        → EntriesSay 1 rest judged classes before keys → newer ≡ true → ProfileSays bytes judged classes newer before keys
-    profile_second {k} e two {rest} part {judged} {classes} {newer} {before} {keys} s of =
-        record {
-          refusal = s.refusal ∙ is;
-          tabled = λ q. unfold labels_in profile_in in subst (λ (w : Walked Profile). Tabled w.state.labels classes) (sym (second_walk part)) (s.tabled (none q));
-          edition = λ q. unfold second_in in of ∙ sym second;
-          before_keys = λ q. s.before_keys (none q) ∙ ap₂ (λ (n : ℕ) (ls : List Label). n + length ls) (sym second_first) (sym (second_labels part));
-          key_count = λ q. unfold keys_in profile_in in subst (λ (w : Walked Profile). keys ≡ length w.state.keys) (sym (second_walk part)) (s.key_count (none q));
-        }
-      where
-        is : first_refusal (record { number = (entries_from 1 rest).number; input = 1; place = (entries_from 1 rest).at } ∷ []) ≡ profile_refusal bytes
-        is =
-            unfold profile_refusal first_refusal oversize edition_refusal in
-            rw (le-ltb 16384 (length bytes) small, second, eq-eqb (get_or (record_body bytes) 0 0) 2 (its.byte ∙ sym e ∙ two), second_walk part)
+    second_is : {k : ℕ} → k ≡ get_or bytes 4 0 → k ≡ 2 → {rest : List ℕ} → rest ≡ drop 5 bytes → entries_refusal 1 rest ≡ profile_refusal bytes
+    unfolding entries_refusal profile_refusal first_refusal oversize edition_refusal
+    second_is e two part =
+        rw (le-ltb 16384 (length bytes) small, second, eq-eqb (get_or (record_body bytes) 0 0) 2 (its.byte ∙ sym e ∙ two), second_walk part)
 
-        none : (profile_refusal bytes).number ≡ 0 → (entries_from 1 rest).number ≡ 0
-        none q = ap (λ (w : Walked Profile). w.number) (sym (second_walk part)) ∙ (profile_accepts bytes q).walked
+    pub profile_second : {k : ℕ} → k ≡ get_or bytes 4 0 → k ≡ 2 → {rest : List ℕ} → rest ≡ drop 5 bytes → (r : Result Profile Fault)
+        → EntriesTold 1 rest true r → ProfileTold bytes r
+    profile_second e two part (Err fault) q = q ∙ second_is e two part
+    profile_second e two {rest} part (Ok p) q =
+        let s = q.0 in
+        let none : profile_refusal bytes ≡ sound = sym (second_is e two part) ∙ entries_sound 1 rest s.accepted in (
+          sym none,
+          record {
+            accepted_profile = ap (λ (x : Refusal). x.number) none;
+            edition = unfold second_in in q.1 ∙ sym second;
+            before_keys = s.before_keys ∙ ap₂ (λ (n : ℕ) (ls : List Label). n + length ls) (sym second_first) (sym (second_labels part));
+            key_count = unfold keys_in profile_in in subst (λ (w : Walked Read). p.keys ≡ length w.state.keys) (sym (second_walk part)) s.key_count;
+            tabled = unfold labels_in profile_in in subst (λ (w : Walked Read). Tabled w.state.labels p.classes) (sym (second_walk part)) s.tabled;
+          },
+        )
 
 -- whether a label's record stands here, return by return
 pub label_torn : (l : List ℕ) {b : Bool} → b ≡ whole l → not b ≡ true → false ≡ is_label_record l

@@ -1,5 +1,5 @@
 -- Symbols and paths by the class table: what the code's tests say, return by return.
-use Rattle.std.specs.Prelude.{ℕ, zero, suc, ◌+◌, ◌<◌, ◌≤◌, ◌≡◌, Bool, ◌&&◌, not, List, [], ◌∷◌, eqb, length, get_or, drop}
+use Rattle.std.specs.Prelude.{ℕ, zero, suc, ◌+◌, ◌-◌, ◌<◌, ◌≤◌, ◌≡◌, Bool, ◌&&◌, not, List, [], ◌∷◌, eqb, length, get_or, drop}
 use Rattle.std.proofs.Math.Path.{refl, sym}
 use Rattle.std.proofs.Common.{ap, ◌∙◌, arith, length-drop}
 use Rattle.std.proofs.Math.Bool.{true, false}
@@ -10,7 +10,7 @@ use Rattle.meaning.specs.Lists.{every}
 use Rattle.meaning.specs.Paths.{normal, simple}
 use Rattle.meaning.specs.Keys.{Key}
 use Rattle.read_record.specs.Classes.{declared_by, is_symbol_by, good_path_by, good_symbols_by}
-use Rattle.read_record.specs.Scans.{Scan, scan_next, scan_stop, drop_step}
+use Rattle.read_record.specs.Scans.{drop_step}
 
 abbrev pub limits_of : ℕ → ℕ → ℕ → KeyLimits
 limits_of symbols path_symbols paths = record { symbols = symbols; path_symbols = path_symbols; paths = paths }
@@ -31,12 +31,6 @@ module _ (classes : List ℕ) (s : ℕ) where
   pub symbol_declared : (s ≡ 0 → ⊥) → (s ≡ 1 → ⊥) → {n : ℕ} → n ≡ s → not (eqb (get_or classes n 0) 0) ≡ is_symbol_by classes s
   unfolding is_symbol_by declared_by
   symbol_declared a b e = rw (ne_eqb s 0 a, ne_eqb s 1 b, e)
-
-pub doubled_first : (a b : ℕ) → a ≡ 0 → eqb b 0 ≡ (eqb a 0 && eqb b 0)
-doubled_first a b e = rw (eq-eqb a 0 e)
-
-pub doubled_not : (a b : ℕ) → (a ≡ 0 → ⊥) → false ≡ (eqb a 0 && eqb b 0)
-doubled_not a b e = rw (ne_eqb a 0 e)
 
 -- the test for normal form stands at symbol i
 pub record NormalAt (p : List ℕ) (i : ℕ) (w : Bool) : Type 0 where
@@ -63,42 +57,38 @@ normal_short (suc x ∷ []) h = refl
 normal_short (zero ∷ y ∷ q) h = absurd (omega arith)
 normal_short (suc x ∷ y ∷ q) h = absurd (omega arith)
 
-module _ {p : List ℕ} {i : ℕ} {w : Bool} (s : NormalAt p i w) where
-  two : i + 1 < length p → drop i p ≡ get_or p i 0 ∷ get_or p (i + 1) 0 ∷ drop (i + 1 + 1) p
-  two h = drop_step 0 p i (omega arith) ∙ ap (λ (q : List ℕ). get_or p i 0 ∷ q) (drop_step 0 p (i + 1) h)
+-- the test for normal form has come to symbol i, and compares it with the one before
+module _ {p : List ℕ} {i : ℕ} {w : Bool} (s : NormalAt p (i - 1) w) (low : 1 ≤ i) where
+  pair : i < length p → drop (i - 1) p ≡ get_or p (i - 1) 0 ∷ get_or p i 0 ∷ drop (i + 1) p
+  pair h =
+      let e : i - 1 + 1 ≡ i = omega arith in
+      drop_step 0 p (i - 1) (omega arith) ∙ ap (λ (q : List ℕ). get_or p (i - 1) 0 ∷ q) (rw e (drop_step 0 p i h))
 
-  pub normal_next : i + 1 < length p → {r : Bool} → r ≡ (eqb (get_or p i 0) 0 && eqb (get_or p (i + 1) 0) 0) → r ≡ false → NormalAt p (i + 1) w
-  normal_next h e t =
-      record {
+  pub normal_next_at : i < length p → (get_or p (i - 1) 0 ≡ 0 → get_or p i 0 ≡ 0 → ⊥) → NormalAt p (i + 1 - 1) w
+  normal_next_at h n =
+      let e : i + 1 - 1 ≡ i = omega arith in
+      rw e (record {
         within = omega arith;
-        rest =
-            ap normal (drop_step 0 p (i + 1) h) ∙ sym (normal_two (get_or p i 0) (get_or p (i + 1) 0) (drop (i + 1 + 1) p) (sym e ∙ t))
-            ∙ sym (ap normal (two h)) ∙ s.rest;
-      }
+        rest = ap normal (drop_step 0 p i h) ∙ sym (normal_two (get_or p (i - 1) 0) (get_or p i 0) (drop (i + 1) p) (apart (get_or p (i - 1) 0) (get_or p i 0) n)) ∙ sym (ap normal (pair h)) ∙ s.rest;
+      })
+    where
+      apart : (x y : ℕ) → (x ≡ 0 → y ≡ 0 → ⊥) → (eqb x 0 && eqb y 0) ≡ false
+      apart zero zero f = absurd (f refl refl)
+      apart zero (suc y) f = eqb-suc-zero y
+      apart (suc x) y f = rw (eqb-suc-zero x) refl
 
-  pub normal_stop : i + 1 < length p → {r : Bool} → r ≡ (eqb (get_or p i 0) 0 && eqb (get_or p (i + 1) 0) 0) → r ≡ true → false ≡ w
-  normal_stop h e t =
-      sym (ap normal (two h) ∙ normal_doubled (get_or p i 0) (get_or p (i + 1) 0) (drop (i + 1 + 1) p) (sym e ∙ t)) ∙ s.rest
+  pub normal_doubled_at : i < length p → get_or p (i - 1) 0 ≡ 0 → get_or p i 0 ≡ 0 → false ≡ w
+  normal_doubled_at h a b =
+      sym (ap normal (pair h) ∙ normal_doubled (get_or p (i - 1) 0) (get_or p i 0) (drop (i + 1) p) (rw (a, b) refl)) ∙ s.rest
 
-  pub normal_end : length p ≤ i + 1 → true ≡ w
-  normal_end h = sym (normal_short (drop i p) (simp length-drop (omega arith))) ∙ s.rest
+pub normal_end : {p : List ℕ} {i : ℕ} {w : Bool} → NormalAt p i w → length p ≤ i + 1 → true ≡ w
+normal_end {p} {i} s h = sym (normal_short (drop i p) (simp length-drop (omega arith))) ∙ s.rest
 
 pub normal_start : (p : List ℕ) → NormalAt p 0 (normal p)
 normal_start p = record { within = omega arith; rest = refl }
 
 abbrev pub not_any : ℕ → Bool
 not_any s = not (eqb s 0)
-
-pub simple_start : (p : List ℕ) → Scan 0 not_any p 0 (simple p)
-unfolding simple
-simple_start p = record { within = omega arith; rest = refl }
-
-module _ {p : List ℕ} {i : ℕ} {w : Bool} (s : Scan 0 not_any p i w) (h : i < length p) where
-  pub simple_next : (get_or p i 0 ≡ 0 → ⊥) → Scan 0 not_any p (i + 1) w
-  simple_next n = scan_next s h {r = true} (sym (ap not (ne_eqb (get_or p i 0) 0 n))) refl
-
-  pub simple_stop : get_or p i 0 ≡ 0 → false ≡ w
-  simple_stop n = scan_stop s h {r = false} (sym (ap not (eq-eqb (get_or p i 0) 0 n))) refl
 
 module _ (classes : List ℕ) (limit : ℕ) (p : List ℕ) where
   pub path_long : limit < length p → false ≡ good_path_by classes limit p

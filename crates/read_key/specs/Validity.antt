@@ -1,18 +1,16 @@
 -- Validity of a join without the join: what stands before the last symbol is an element or the any-path. Then the code's returns.
-use Prim.Native.Nat.{ℕ, zero, suc, ◌+◌, ◌<◌, ◌≤◌}
-use Rattle.std.specs.Prelude.{◌≡◌, Bool, cond, ◌&&◌, ◌||◌, eqb, length, drop}
+use Prim.Native.Nat.{ℕ, zero, suc}
+use Rattle.std.specs.Prelude.{◌-◌, ◌≡◌, Bool, cond, ◌&&◌, ◌||◌, eqb, length, take}
 use Rattle.std.proofs.Math.Path.{refl, sym, ap, ap₂}
-use Rattle.std.proofs.Common.{subst, ◌∙◌, arith, length-drop}
+use Rattle.std.proofs.Common.{◌∙◌, arith}
 use Rattle.std.proofs.Math.Bool.{true, false, not, and-true, and_assoc}
 use mathlib.Core.List.{List, [], ◌∷◌, ◌++◌, append-nil}
 use Rattle.std.proofs.Math.ListN.{get_or}
-use borrow.Author.Tests.{ne_eqb, not-true, not-false}
+use borrow.Author.Tests.{ne_eqb}
 use Rattle.meaning.specs.Lists.{every}
 use Rattle.meaning.specs.Paths.{Class, element, attribute, is_element, norm, join, valid}
 use Rattle.meaning.specs.Keys.{Key}
 use Rattle.read_record.specs.Classes.{class_by, all_valid_by}
-use Rattle.read_record.specs.Scans.{drop_step}
-use Rattle.read_record.specs.KeyPaths.{AtPath, PathScan, path_scan_start}
 use Rattle.theory_paths.specs.Valid.{valid_norm}
 
 -- a symbol that may stand before others
@@ -80,36 +78,15 @@ module _ (classes : List ℕ) (s : ℕ) where
       go true = refl
       go false = refl
 
--- the test for validity stands at symbol i
-pub record ValidAt (κ : ℕ → Class) (p : List ℕ) (i : ℕ) (w : Bool) : Type 0 where
-  pub within : i ≤ length p
-  pub rest : valid κ (drop i p) ≡ w
-
-pub valid_start : (κ : ℕ → Class) (p : List ℕ) → ValidAt κ p 0 (valid κ p)
-valid_start κ p = record { within = omega arith; rest = refl }
-
-valid_short : (κ : ℕ → Class) (p : List ℕ) → length p ≤ 1 → valid κ p ≡ true
-unfolding valid
-valid_short κ [] h = refl
-valid_short κ (s ∷ []) h = refl
-valid_short κ (s ∷ t ∷ p) h = absurd (omega arith)
-
-module _ {κ : ℕ → Class} {p : List ℕ} {i : ℕ} {w : Bool} (s : ValidAt κ p i w) where
-  pair : i + 1 < length p → (inner κ (get_or p i 0) && valid κ (drop (i + 1) p)) ≡ w
-  unfolding valid inner
-  pair h =
-      ap (λ (l : List ℕ). inner κ (get_or p i 0) && valid κ l) (drop_step 0 p (i + 1) h)
-      ∙ sym (ap (valid κ) (drop_step 0 p i (omega arith) ∙ ap (λ (l : List ℕ). get_or p i 0 ∷ l) (drop_step 0 p (i + 1) h)))
-      ∙ s.rest
-
-  pub valid_next : i + 1 < length p → {r : Bool} → r ≡ inner κ (get_or p i 0) → not r ≡ false → ValidAt κ p (i + 1) w
-  valid_next h e t = record { within = omega arith; rest = rw (sym e ∙ not-false _ t) at (pair h) }
-
-  pub valid_stop : i + 1 < length p → {r : Bool} → r ≡ inner κ (get_or p i 0) → not r ≡ true → false ≡ w
-  valid_stop h e t = rw (sym e ∙ not-true _ t) at (pair h)
-
-  pub valid_end : length p ≤ i + 1 → true ≡ w
-  valid_end h = sym (valid_short κ (drop i p) (simp length-drop (omega arith))) ∙ s.rest
+-- each symbol but the last may stand before others
+pub valid_inner : (κ : ℕ → Class) (p : List ℕ) → every (inner κ) (take (length p - 1) p) ≡ valid κ p
+unfolding every valid inner
+valid_inner κ [] = refl
+valid_inner κ (s ∷ []) = refl
+valid_inner κ (s ∷ t ∷ p) =
+    let e : suc (suc (length p)) - 1 ≡ suc (length p) = omega arith in
+    let f : suc (length p) - 1 ≡ length p = omega arith in
+    rw e (ap (λ (b : Bool). (eqb s 0 || is_element (κ s)) && b) ((rw f at (valid_inner κ (t ∷ p)))))
 
 pub behind_empty : (κ : ℕ → Class) (i v : Bool) (p : List ℕ) → length p ≡ 0 → v ≡ behind κ i v p
 unfolding behind
@@ -125,12 +102,6 @@ pub behind_not : (κ : ℕ → Class) (i v : Bool) (p : List ℕ) → (length p 
 unfolding behind
 behind_not κ i v [] h t = absurd (h refl)
 behind_not κ i v (x ∷ p) h t = rw t
-
-pub both_not : {a : Bool} (b : Bool) {r : Bool} → r ≡ a → not r ≡ true → false ≡ (a && b)
-both_not {a} b e t = rw (sym e ∙ not-true _ t)
-
-pub both_yes : {a b : Bool} {r : Bool} → r ≡ a → not r ≡ false → {q : Bool} → q ≡ b → q ≡ (a && b)
-both_yes {a} {b} e t f = f ∙ (rw (sym e ∙ not-false _ t))
 
 pub both_behind : (κ : ℕ → Class) (c t : List ℕ) {i : Bool} → i ≡ every (inner κ) c → {v : Bool} → v ≡ valid κ c
     → {r : Bool} → r ≡ behind κ i v t → r ≡ valid κ (c ++ t)
@@ -150,6 +121,3 @@ all_behind classes k {c} ec {t} et {i} ei {v} ev =
     (λ p.
     ap₂ (λ (a b : Bool). behind (class_by classes) a b p) ei ev ∙ sym (valid_joined (class_by classes) c t p)
     ∙ ap₂ (λ (a b : List ℕ). valid (class_by classes) (join (join a b) p)) ec et) k.paths
-
-pub behind_start : (f : List ℕ → Bool) (ps : List (List ℕ)) {rest : List ℕ} {w : Bool} → AtPath ps 0 rest → every f ps ≡ w → PathScan f ps 0 rest w
-behind_start f ps {rest} {w} a e = subst (λ (b : Bool). PathScan f ps 0 rest b) e (path_scan_start f ps rest a)

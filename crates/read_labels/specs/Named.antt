@@ -1,7 +1,9 @@
 -- A name looked for in the label records, return by return.
 use Rattle.std.specs.Prelude.{ℕ, zero, suc, ◌-◌, ◌≤◌, ◌<◌, ◌≡◌, Bool, true, false, cond, List, length, take, drop, eqb}
 use Rattle.std.proofs.Math.Path.{refl, sym}
-use Rattle.std.proofs.Common.{ap, ◌∙◌, arith, sub-one, eq-eqb, ne_eqb}
+use Rattle.std.proofs.Common.{ap, ◌∙◌, arith, sub-one}
+use Rattle.std.specs.Prelude as library
+use Rattle.std.specs.Bool.{then_some}
 use Rattle.std.proofs.Math.Option.{Option, none, some}
 use borrow.Author.Rules.{part_to_end}
 use Rattle.std.proofs.Math.ListN.{get_or}
@@ -13,10 +15,10 @@ use Rattle.read_entry.specs.Labels.{labels_at, name_part}
 use Rattle.read_entry.specs.Repeats
 use Rattle.read_entry.specs.Repeats.{Standing}
 
--- a symbol, or 256 where there is none
-pub data Coded (o : Option ℕ) (r : ℕ) : Type 0 where
-  found : r < 256 → o ≡ some r → Coded o r
-  unknown : r ≡ 256 → o ≡ none → Coded o r
+-- a symbol, which is a byte, or none
+abbrev pub Coded : Option ℕ → library.Option ℕ → Type 0
+Coded o (library.Some r) = (r < 256) × (o ≡ some r)
+Coded o library.None = o ≡ none
 
 -- The search has so many records left; w is what is asked of the whole
 pub record Naming (class : ℕ) (name : List ℕ) (left : ℕ) (rest : List ℕ) (w : Option ℕ) : Type 0 where
@@ -51,9 +53,9 @@ front {class = class} {name = name} {left = suc left} {rest = rest} {w = w} s h 
     go : Standing 6 (suc left) rest → Front class name (suc left) rest w
     go (Repeats.more a b r) = record { room = a; within = b; others = rw sub-one r; asked = rw sub-one (its a ∙ s.here) }
 
-pub naming_done : {class : ℕ} {name : List ℕ} {left : ℕ} {rest : List ℕ} {w : Option ℕ} → Naming class name left rest w → left ≤ 0 → Coded w 256
+pub naming_done : {class : ℕ} {name : List ℕ} {left : ℕ} {rest : List ℕ} {w : Option ℕ} → Naming class name left rest w → left ≤ 0 → w ≡ none
 unfolding labels_at label_named
-naming_done {left = zero} s h = unknown refl (sym s.here)
+naming_done {left = zero} s h = sym s.here
 naming_done {left = suc left} s h = absurd (omega arith)
 
 module _ {class : ℕ} {name : List ℕ} {left : ℕ} {rest : List ℕ} {w : Option ℕ} (s : Naming class name left rest w) (h : 0 < left) where
@@ -73,13 +75,15 @@ module _ {class : ℕ} {name : List ℕ} {left : ℕ} {rest : List ℕ} {w : Opt
     unfolding record_length
     front_test q = sym (ap (λ (n : ℕ). same (take (n - 6) (drop 6 rest)) name) e) ∙ (sym t ∙ q)
 
-    -- the name stands here with the class typed
-    pub naming_found : r ≡ true → {c : ℕ} → c ≡ get_or rest 5 0 → c ≡ class → {n : ℕ} → n ≡ get_or rest 4 0 → n < 256 → Coded w n
-    naming_found q f g {n} k small = found small (sym (rw (front_test q, eq-eqb (get_or rest 5 0) class (sym f ∙ g), sym k) at (front s h).asked))
-
-    -- "or there with the other class"
-    pub naming_other : r ≡ true → {c : ℕ} → c ≡ get_or rest 5 0 → (c ≡ class → ⊥) → Coded w 256
-    naming_other q f g = unknown refl (sym (rw (front_test q, ne_eqb (get_or rest 5 0) class (λ z. g (f ∙ z))) at (front s h).asked))
+    -- the name stands here: "or there with the other class"
+    pub naming_here : r ≡ true → {c : ℕ} → c ≡ get_or rest 5 0 → {n : ℕ} → n ≡ get_or rest 4 0 → n < 256 → {o : library.Option ℕ}
+        → o ≡ then_some (eqb c class) n → Coded w o
+    naming_here q {c} f {n} k small told =
+        rw told (go (eqb c class) (sym (rw (front_test q, sym f, sym k) at (front s h).asked)))
+      where
+        go : (b : Bool) → w ≡ cond b (some n) none → Coded w (then_some b n)
+        go true e = (small, e)
+        go false e = e
 
     pub naming_next : r ≡ false → Naming class name (left - 1) (take (length rest - end) (drop end rest)) w
     naming_next q =

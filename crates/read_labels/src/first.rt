@@ -5,8 +5,5 @@ ghost use Rattle.std.specs.Prelude.{◌≡◌, cond};
 pub fn first_entry(second: bool) -> usize
     ensures { result ≡ cond second 1 0 }
 {
-    if second {
-        return 1;
-    }
-    0
+    usize::from(second)
 }

@@ -1,4 +1,4 @@
-// Labels of an accepted profile, looked up in its bytes (02, request 1: the names of a line).
+// Labels of an accepted profile, looked up in its bytes: the names of a typed line.
 #![tactic(auto)]
 
 pub mod first;

@@ -1,35 +1,41 @@
 -- What a line gives, return by return: 17, 18, 4, 5, 6, or the key's record.
-use Rattle.std.specs.Prelude.{ℕ, ◌+◌, ◌-◌, ◌≤◌, ◌<◌, ◌≡◌, refl, Bool, false, cond, not, ◌&&◌, List, [], ◌∷◌, ◌++◌, eqb, ltb, leb, length, take, drop}
-use Rattle.std.proofs.Math.Path.{sym}
-use Rattle.std.proofs.Common.{ap, ap₂, subst, ◌∙◌, length-append, length-take-le}
-use Rattle.std.proofs.Math.Bool.{true}
-use Rattle.std.proofs.Math.Option.{none, some}
-use native.Mathlib.Omega.{arith}
+use Rattle.std.specs.Prelude as library
+use Rattle.std.specs.Prelude.{ℕ, ◌+◌, ◌-◌, ◌≤◌, ◌<◌, ◌≡◌, refl, Bool, true, false, cond, ◌&&◌, List, [], ◌∷◌, ◌++◌, ltb, leb, length, take, drop, is_some, unwrap_or, Result, Ok, Err, IfOk}
+use Rattle.std.proofs.Common.{sym, ap, ap₂, subst, ◌∙◌, arith, ltb-true, length-append, length-take-le}
+use Rattle.std.proofs.lemmas.Bool.{lt-leb, ltb-false}
+use Rattle.std.proofs.lemmas.Result.{IfOk-at_ok}
 use Rattle.std.proofs.Math.Decide.{dec_lt}
-use borrow.Author.Tests.{eq-eqb, ne_eqb, lt-ltb, le-ltb, ltb-true, ltb-false, lt-leb, not-true, not-false}
+use Rattle.std.proofs.Math.Option.{none, some}
 use Rattle.meaning.specs.Limits.{in_profile}
 use Rattle.meaning.specs.Lists.{every}
 use Rattle.meaning.specs.Paths.{Label, normal}
 use Rattle.meaning.specs.Keys.{Key}
-use Rattle.meaning.specs.Records.{read_key, key_in, is_some, word_bytes, record_bytes, path_bytes, key_body, key_bytes}
+use Rattle.meaning.specs.Records.{read_key, key_in, word_bytes, record_bytes, path_bytes, key_body, key_bytes}
+use Rattle.meaning.specs.Records.{is_some as is_some_key}
 use Rattle.meaning.specs.Refusals.{first_of, good_set}
 use Rattle.meaning.specs.Text.{TypedKey, typed_key}
 use Rattle.theory_lists.specs.Bools.{of_true, and-false, and_first, and_second}
 use Rattle.theory_records.specs.KeyBodies.{key_in_read, key_is_read}
 use Rattle.theory_text.specs.Reading.{read_text}
+use Rattle.read_judged.specs.declared.RefusalKind.{RefusalKind}
+use Rattle.read_judged.specs.declared.RefusalKind.TheVariants as Kinds
+use Rattle.read_judged.specs.Answers.{number_of, told, some_number}
 use Rattle.read_record.specs.Classes.{is_symbol_by, good_path_by, good_symbols_by, key_tests_by}
 use Rattle.read_record.specs.Tables.{ByteKey}
 use Rattle.read_record.specs.PathBytes.{paths_bytes}
-use Rattle.read_text.specs.Cutting.{CutOf}
+use Rattle.read_symbols.specs.declared.errors.TextError.{TextError}
+use Rattle.read_symbols.specs.declared.errors.TextError.TheVariants as Errors
+use Rattle.read_symbols.specs.declared.path.PathRead.{PathRead}
 use Rattle.read_symbols.specs.Outcomes
 use Rattle.read_symbols.specs.Outcomes.{Outcome}
-use Rattle.read_symbols.specs.Scanning.{Slot}
+use Rattle.read_symbols.specs.Scanning.{Slot, symbols_in}
+use Rattle.read_typed.specs.declared.set.SetRead.{SetRead}
 use Rattle.read_typed.specs.Gathering.{slot_symbols}
 use Rattle.write_bytes.specs.Wrote.{Wrote, wrote_more, wrote_is, wrote_part}
 use Rattle.write_line.specs.LineParts.{Sized, key_part, key_wrote}
 use Rattle.write_set.specs.Encoded.{SetIn}
 use Rattle.write_set.specs.Inserts.{drop_of_take}
-use Rattle.read_line.specs.Known.{Path, Set, LineKnown, known_symbols, known_count, known_bytes}
+use Rattle.read_line.specs.Known.{LineKnown, known_symbols, known_count, known_bytes}
 
 -- 5 by the count of key paths, and 4 before it
 abbrev pub by_count : Bool → Bool → ℕ
@@ -38,10 +44,18 @@ by_count none-there too_many = cond none-there 5 (cond too_many 5 0)
 abbrev pub by_symbols : Bool → ℕ → ℕ
 by_symbols fits later = cond fits later 4
 
--- 17, 18, 4 and, by the count, 5
-unfoldable pub parts_number : ℕ → Bool → ℕ → ℕ
-parts_number highest fits count =
-    cond (eqb highest 257) 17 (cond (eqb highest 256) 18 (by_symbols fits (by_count (ltb count 1) (ltb 4 count))))
+-- 17 and 18
+abbrev pub kind_of : TextError → RefusalKind
+kind_of Errors.NotALine = Kinds.NotALine
+kind_of Errors.UnknownName = Kinds.UnknownName
+
+abbrev pub as_refusal : {A : Type 0} → Result A TextError → Result A RefusalKind
+as_refusal (Ok v) = Ok v
+as_refusal (Err e) = Err (kind_of e)
+
+abbrev pub bytes_used : Result ℕ RefusalKind → ℕ
+bytes_used (Ok used) = used
+bytes_used (Err _) = 0
 
 pub data LineTold (labels : List Label) (classes line out : List ℕ) (number used : ℕ) : Type 0 where
   not_line : number ≡ 17 → read_text line ≡ none → LineTold labels classes line out number used
@@ -56,51 +70,9 @@ unfolding good_path_by
 fits_long classes path count h p s =
     sym (ap (λ (b : Bool). every (is_symbol_by classes) p && normal p && b) (lt-leb (length p) 8 (omega (arith, s.counted))) ∙ and-false (every (is_symbol_by classes) p && normal p))
 
-pub fits_good : (classes path : List ℕ) (count : ℕ) → count ≤ 8 → {r : Bool} → r ≡ good_path_by classes 8 (take (count + 1 - 1) (drop 1 path)) → (p : List ℕ) → Slot count path p
+pub fits_good : (classes : List ℕ) (path : PathRead) → path.count ≤ 8 → {r : Bool} → r ≡ good_path_by classes 8 (symbols_in path) → (p : List ℕ) → Slot path.count path.path p
     → r ≡ good_path_by classes 8 p
-fits_good classes path count h e p s = e ∙ ap (good_path_by classes 8) (slot_symbols s h)
-
--- ---- parts_number, return by return
-module _ (highest count : ℕ) where
-  pub number_torn : (fits : Bool) → highest ≡ 257 → 17 ≡ parts_number highest fits count
-  unfolding parts_number
-  number_torn fits e = rw (eq-eqb highest 257 e)
-
-  module _ (whole : highest ≡ 257 → ⊥) where
-    pub number_unknown : (fits : Bool) → highest ≡ 256 → 18 ≡ parts_number highest fits count
-    unfolding parts_number
-    number_unknown fits e = rw (ne_eqb highest 257 whole, eq-eqb highest 256 e)
-
-    module _ (known : highest ≡ 256 → ⊥) where
-      pub number_symbols : {fits : Bool} → fits ≡ false → 4 ≡ parts_number highest fits count
-      unfolding parts_number
-      number_symbols e = rw (ne_eqb highest 257 whole, ne_eqb highest 256 known, e)
-
-      pub number_none : {fits : Bool} → fits ≡ true → count < 1 → 5 ≡ parts_number highest fits count
-      unfolding parts_number
-      number_none e h = rw (ne_eqb highest 257 whole, ne_eqb highest 256 known, e, lt-ltb count 1 h)
-
-      pub number_many : {fits : Bool} → fits ≡ true → 1 ≤ count → 4 < count → 5 ≡ parts_number highest fits count
-      unfolding parts_number
-      number_many e h m = rw (ne_eqb highest 257 whole, ne_eqb highest 256 known, e, le-ltb count 1 h, lt-ltb 4 count m)
-
-      pub number_fine : {fits : Bool} → fits ≡ true → 1 ≤ count → count ≤ 4 → 0 ≡ parts_number highest fits count
-      unfolding parts_number
-      number_fine e h m = rw (ne_eqb highest 257 whole, ne_eqb highest 256 known, e, le-ltb count 1 h, le-ltb 4 count m)
-
--- the three tests together
-pub fit_first : (a b c : Bool) → not a ≡ true → (a && b && c) ≡ false
-fit_first true b c e = absurd (of_true false e)
-fit_first false b c e = refl
-
-pub fit_second : (a b c : Bool) → not a ≡ false → not b ≡ true → (a && b && c) ≡ false
-fit_second a b c e f = ap₂ (λ (x y : Bool). x && y && c) (not-false a e) (not-true b f)
-
-pub fit_third : (a b c : Bool) → not a ≡ false → not b ≡ false → not c ≡ true → (a && b && c) ≡ false
-fit_third a b c e f g = ap₂ (λ (x y : Bool). x && y && c) (not-false a e) (not-false b f) ∙ not-true c g
-
-pub fit_all : (a b c : Bool) → not a ≡ false → not b ≡ false → not c ≡ false → (a && b && c) ≡ true
-fit_all a b c e f g = ap₂ (λ (x y : Bool). x && y && c) (not-false a e) (not-false b f) ∙ not-false c g
+fits_good classes path h e p s = e ∙ ap (good_path_by classes 8) (slot_symbols s h)
 
 -- ---- put_record
 key_part_length : (context target : List ℕ) (count : ℕ) (paths : List ℕ) → length (key_part context target count paths) ≡ 3 + length context + length target + length paths
@@ -123,8 +95,8 @@ record_wrote context target count paths {size} e w v x y z l =
     (wrote_more w.wrote (wrote_more v.wrote (key_wrote context target count paths l z y x)))
 
 -- ---- the line
-pub line_torn : {labels : List Label} {classes line out : List ℕ} {is : Bool} {x y z : ℕ} → CutOf line is x y z → not is ≡ true → LineTold labels classes line out 17 0
-line_torn c t = not_line refl (c.torn (not-true _ t))
+pub line_torn : {labels : List Label} {classes line out : List ℕ} → read_text line ≡ none → LineTold labels classes line out 17 0
+line_torn r = not_line refl r
 
 cases : (m : ℕ) (b : Bool) → ltb m 1 ≡ b → (d : Bool) → ltb 4 m ≡ d → (by_count b d ≡ 0 → ⊥)
     → (by_count b d ≡ 5) × ((leb 1 m && leb m 4) ≡ false)
@@ -154,22 +126,6 @@ as_tests classes key {first} told n = go (good_symbols_by classes in_profile key
         at : by_symbols (good_symbols_by classes in_profile key) (by_count (ltb (length key.paths) 1) (ltb 4 (length key.paths))) ≡ first_of (key_tests_by classes in_profile key)
         at = unfold key_tests_by first_of good_set in rw (q, five.0, five.1)
 
-of_small : (h : ℕ) (f : Bool) (m : ℕ) → h < 256 → parts_number h f m ≡ by_symbols f (by_count (ltb m 1) (ltb 4 m))
-unfolding parts_number
-of_small h f m small = rw (ne_eqb h 257 (λ q. omega arith), ne_eqb h 256 (λ q. omega arith))
-
--- what is known where none of 17, 18, 4 and the counts of 5 comes
-pub record Fine (labels : List Label) (classes line : List ℕ) (c t : Path) (s : Set) : Type 0 where
-  pub k : TypedKey
-  pub key : Key
-  pub reads : read_text line ≡ some k
-  pub typed : typed_key labels k ≡ some key
-  pub known : LineKnown classes c t s key
-  pub context_short : c.count ≤ 8
-  pub target_short : t.count ≤ 8
-  pub few : s.count ≤ 4
-  pub fit : s.fits ≡ true
-
 none_of_them : (f : Bool) (m : ℕ) → by_symbols f (by_count (ltb m 1) (ltb 4 m)) ≡ 0 → (f ≡ true) × (m ≤ 4)
 none_of_them f m e = go f (ltb m 1) (ltb 4 m) refl e
   where
@@ -179,91 +135,136 @@ none_of_them f m e = go f (ltb m 1) (ltb 4 m) refl e
     go true true d q e = absurd (omega arith)
     go false b d q e = absurd (omega arith)
 
-module _ (labels : List Label) (classes line : List ℕ) {h : ℕ} {c t : Path} {s : Set} (o : Outcome (read_text line) (typed_key labels) h (LineKnown classes c t s)) {x y : Bool}
-    (fc : (p : List ℕ) → Slot c.count c.slot p → x ≡ good_path_by classes 8 p) (ft : (p : List ℕ) → Slot t.count t.slot p → y ≡ good_path_by classes 8 p)
-    {first : ℕ} (e : first ≡ parts_number h (x && y && s.fits) s.count) where
-  told : h < 256 → (key : Key) → LineKnown classes c t s key
-      → first ≡ by_symbols (good_symbols_by classes in_profile key) (by_count (ltb (length key.paths) 1) (ltb 4 (length key.paths)))
-  told small key k =
-      e
-      ∙ (of_small h (x && y && s.fits) s.count small
-      ∙ ap₂ (λ (f : Bool) (m : ℕ). by_symbols f (by_count (ltb m 1) (ltb 4 m))) (known_symbols k fc ft) (known_count k))
+pub refused_ok : {A : Type 0} (r : Result A TextError) {v : A} → as_refusal r ≡ Ok v → r ≡ Ok v
+refused_ok (Ok x) {v} e = let p : x ≡ v = cc in ap Ok p
+refused_ok (Err d) e = cc
 
-  pub line_first : (out : List ℕ) → (first ≡ 0 → ⊥) → LineTold labels classes line out first 0
-  line_first out n = go o
+pub refused_error : {A : Type 0} (r : Result A TextError) {k : RefusalKind} → as_refusal r ≡ Err k → (e : TextError) × (r ≡ Err e) × (k ≡ kind_of e)
+refused_error (Ok x) e = cc
+refused_error (Err d) e = (d, refl, cc)
+
+-- what is known where neither 17 nor 18 comes
+pub record Read (labels : List Label) (classes line out : List ℕ) (c t : PathRead) (s : SetRead) : Type 0 where
+  pub k : TypedKey
+  pub key : Key
+  pub reads : read_text line ≡ some k
+  pub typed : typed_key labels k ≡ some key
+  pub known : LineKnown classes out c t s key
+
+module _ {labels : List Label} {classes line out : List ℕ} {r : Result ((PathRead × PathRead) × SetRead) TextError}
+    (o : Outcome (read_text line) (typed_key labels) r (λ v key. LineKnown classes out v.0.0 v.0.1 v.1 key)) where
+  -- 17 or 18
+  pub line_error : (e : TextError) → r ≡ Err e → (after : List ℕ) → LineTold labels classes line after (number_of (kind_of e)) 0
+  line_error e is after = go o
     where
-      go : Outcome (read_text line) (typed_key labels) h (LineKnown classes c t s) → LineTold labels classes line out first 0
-      go (Outcomes.torn z r) = not_line (e ∙ sym (number_torn h s.count (x && y && s.fits) z)) r
-      go (Outcomes.unknown k z r u) = no_name k (e ∙ sym (number_unknown h s.count (λ q. omega arith) (x && y && s.fits) z)) r u
-      go (Outcomes.known k key small r u w) = is_typed k key r u (known_bytes w) (as_tests classes key (told small key w) n) (λ q. absurd (n q))
+      go : Outcome (read_text line) (typed_key labels) r (λ v key. LineKnown classes out v.0.0 v.0.1 v.1 key) → LineTold labels classes line after (number_of (kind_of e)) 0
+      go (Outcomes.known k key v w s t n) = cc
+      go (Outcomes.unknown k w s t) = let same : e ≡ Errors.UnknownName = cc in no_name k (ap (λ (x : TextError). number_of (kind_of x)) same) s t
+      go (Outcomes.torn w s) = let same : e ≡ Errors.NotALine = cc in not_line (ap (λ (x : TextError). number_of (kind_of x)) same) s
 
-  pub line_fine : first ≡ 0 → Fine labels classes line c t s
-  line_fine z = go o
+  pub line_read : {c t : PathRead} {s : SetRead} → r ≡ Ok ((c, t), s) → Read labels classes line out c t s
+  line_read {c} {t} {s} is = go o
     where
-      short : (count : ℕ) (slot p : List ℕ) → Slot count slot p → good_path_by classes 8 p ≡ true → count ≤ 8
-      short count slot p q g = go (dec_lt 8 count)
-        where
-          go : Dec (8 < count) → count ≤ 8
-          go (yes l) = absurd (of_true false (fits_long classes slot count l p q ∙ g))
-          go (no l) = omega arith
-
-      go : Outcome (read_text line) (typed_key labels) h (LineKnown classes c t s) → Fine labels classes line c t s
-      go (Outcomes.torn q r) = absurd (let w = number_torn h s.count (x && y && s.fits) q in omega arith)
-      go (Outcomes.unknown k q r u) = absurd (let w = number_unknown h s.count (λ v. omega arith) (x && y && s.fits) q in omega arith)
-      go (Outcomes.known k key small r u w) =
-          let parts = none_of_them (x && y && s.fits) s.count (sym (of_small h (x && y && s.fits) s.count small) ∙ (sym e ∙ z)) in
-          let front = and_first (x && y) s.fits parts.0 in
+      go : Outcome (read_text line) (typed_key labels) r (λ v key. LineKnown classes out v.0.0 v.0.1 v.1 key) → Read labels classes line out c t s
+      go (Outcomes.known k key v w q u n) =
+          let same-parts : v ≡ ((c, t), s) = cc in
           record {
             k = k;
             key = key;
-            reads = r;
+            reads = q;
             typed = u;
-            known = w;
-            context_short = short c.count c.slot key.context w.context (sym (fc key.context w.context) ∙ and_first x y front);
-            target_short = short t.count t.slot key.target w.target (sym (ft key.target w.target) ∙ and_second x y front);
-            few = parts.1;
-            fit = and_second (x && y) s.fits parts.0;
+            known = subst (λ (x : (PathRead × PathRead) × SetRead). LineKnown classes out x.0.0 x.0.1 x.1 key) same-parts n;
           }
+      go (Outcomes.unknown k w q u) = cc
+      go (Outcomes.torn w q) = cc
+
+-- what is known where none of 17, 18, 4 and the counts of 5 comes
+pub record Fine (labels : List Label) (classes line out : List ℕ) (c t : PathRead) (s : SetRead) (used : ℕ) : Type 0 where
+  pub read : Read labels classes line out c t s
+  pub context_short : c.count ≤ 8
+  pub target_short : t.count ≤ 8
+  pub few : s.count ≤ 4
+  pub fit : s.used ≡ library.Some used
+
+module _ {labels : List Label} {classes line out : List ℕ} {c t : PathRead} {s : SetRead} (read : Read labels classes line out c t s) {x y : Bool}
+    (fc : (p : List ℕ) → Slot c.count c.path p → x ≡ good_path_by classes 8 p) (ft : (p : List ℕ) → Slot t.count t.path p → y ≡ good_path_by classes 8 p)
+    (r : Result ℕ RefusalKind) (e : told r ≡ by_symbols (x && y && is_some s.used) (by_count (ltb s.count 1) (ltb 4 s.count))) where
+  as_key : told r ≡ by_symbols (good_symbols_by classes in_profile read.key) (by_count (ltb (length read.key.paths) 1) (ltb 4 (length read.key.paths)))
+  as_key = e ∙ ap₂ (λ (f : Bool) (m : ℕ). by_symbols f (by_count (ltb m 1) (ltb 4 m))) (known_symbols read.known fc ft) (known_count read.known)
+
+  pub line_first : (kind : RefusalKind) → r ≡ Err kind → (after : List ℕ) → LineTold labels classes line after (number_of kind) 0
+  line_first kind is after =
+      let number : told r ≡ number_of kind = ap told is in
+      is_typed read.k read.key read.reads read.typed (known_bytes read.known)
+      (as_tests classes read.key (sym number ∙ as_key) (some_number kind)) (λ z. absurd (some_number kind z))
+
+  pub line_fine : {used : ℕ} → r ≡ Ok used → IfOk r (λ used. s.used ≡ library.Some used) → Fine labels classes line out c t s used
+  line_fine {used} is bytes =
+      let parts = none_of_them (x && y && is_some s.used) s.count (sym e ∙ ap told is) in
+      let front = and_first (x && y) (is_some s.used) parts.0 in
+      record {
+        read = read;
+        context_short = short c read.key.context read.known.context.slot (sym (fc read.key.context read.known.context.slot) ∙ and_first x y front);
+        target_short = short t read.key.target read.known.target.slot (sym (ft read.key.target read.known.target.slot) ∙ and_second x y front);
+        few = parts.1;
+        fit = IfOk-at_ok (λ used. s.used ≡ library.Some used) is bytes;
+      }
+    where
+      short : (path : PathRead) (p : List ℕ) → Slot path.count path.path p → good_path_by classes 8 p ≡ true → path.count ≤ 8
+      short path p q g = go (dec_lt 8 path.count)
+        where
+          go : Dec (8 < path.count) → path.count ≤ 8
+          go (yes l) = absurd (of_true false (fits_long classes path.path path.count l p q ∙ g))
+          go (no l) = omega arith
 
 -- the key put together
-module _ {labels : List Label} {classes line : List ℕ} {c t : Path} {s : Set} (f : Fine labels classes line c t s) where
-  set_in_order : SetIn s.bytes s.count s.used f.key.paths
-  set_in_order = subst (SetIn s.bytes s.count s.used) (sym f.known.are) (f.known.kept.stands f.fit f.few)
+module _ {labels : List Label} {classes line out : List ℕ} {c t : PathRead} {s : SetRead} {end : ℕ} (f : Fine labels classes line out c t s end) where
+  fits : is_some s.used ≡ true
+  fits = ap (λ (o : library.Option ℕ). is_some o) f.fit
 
-  pub fine_used : s.used ≤ length s.bytes
+  used_is : unwrap_or s.used 0 ≡ end
+  used_is = ap (λ (o : library.Option ℕ). unwrap_or o 0) f.fit
+
+  set_in_order : SetIn out s.count end f.read.key.paths
+  set_in_order = rw (← used_is, f.read.known.are) (f.read.known.kept.stands fits f.few)
+
+  pub fine_used : end ≤ length out
   fine_used = set_in_order.within
 
-  pub fine_short : length (take s.used s.bytes) ≤ 36
+  pub fine_short : length (take end out) ≤ 36
   fine_short =
-      let h = f.known.kept.short f.fit f.few in
+      let h = f.read.known.kept.short fits f.few in
       let k = f.few in
-      let l = length-take-le s.used s.bytes fine_used in
+      let u = used_is in
+      let l = length-take-le end out fine_used in
       omega arith
 
-  pub fine_context : length (take (c.count + 1 - 1) (drop 1 c.slot)) ≤ 8
-  fine_context = let e = ap length (slot_symbols f.known.context f.context_short) in let n = f.known.context.counted in let h = f.context_short in omega arith
+  symbols_short : (path : PathRead) {p : List ℕ} → path.count ≤ 8 → Slot path.count path.path p → length (symbols_in path) ≤ 8
+  symbols_short path h q = let e = ap length (slot_symbols q h) in let n = q.counted in omega arith
 
-  pub fine_target : length (take (t.count + 1 - 1) (drop 1 t.slot)) ≤ 8
-  fine_target = let e = ap length (slot_symbols f.known.target f.target_short) in let n = f.known.target.counted in let h = f.target_short in omega arith
+  pub fine_context : length (symbols_in c) ≤ 8
+  fine_context = symbols_short c f.context_short f.read.known.context.slot
 
-  body : key_part (take (c.count + 1 - 1) (drop 1 c.slot)) (take (t.count + 1 - 1) (drop 1 t.slot)) s.count (take s.used s.bytes) ≡ key_body f.key
+  pub fine_target : length (symbols_in t) ≤ 8
+  fine_target = symbols_short t f.target_short f.read.known.target.slot
+
+  body : key_part (symbols_in c) (symbols_in t) s.count (take end out) ≡ key_body f.read.key
   unfolding key_part key_body
   body =
       rw (
-        slot_symbols f.known.context f.context_short,
-        slot_symbols f.known.target f.target_short,
-        known_count f.known,
-        sym (paths_bytes s.count (take s.used s.bytes) set_in_order.ends),
+        slot_symbols f.read.known.context.slot f.context_short,
+        slot_symbols f.read.known.target.slot f.target_short,
+        known_count f.read.known,
+        sym (paths_bytes s.count (take end out) set_in_order.ends),
         set_in_order.are,
       )
 
-  module _ {out after : List ℕ} {used : ℕ}
-      (w : Wrote out after 0 (record_bytes 2 (key_part (take (c.count + 1 - 1) (drop 1 c.slot)) (take (t.count + 1 - 1) (drop 1 t.slot)) s.count (take s.used s.bytes))) used) where
-    written : take used after ≡ key_bytes f.key
+  module _ {before after : List ℕ} {used : ℕ} (w : Wrote before after 0 (record_bytes 2 (key_part (symbols_in c) (symbols_in t) s.count (take end out))) used) where
+    written : take used after ≡ key_bytes f.read.key
     written = wrote_part w ∙ (ap (record_bytes 2) body ∙ (unfold key_bytes in refl))
 
     pub fine_head : 4 ≤ used
-    fine_head = let e = w.after in let n = record_long f.key in let b = ap (λ (l : List ℕ). length (record_bytes 2 l)) body in omega arith
+    fine_head = let e = w.after in let n = record_long f.read.key in let b = ap (λ (l : List ℕ). length (record_bytes 2 l)) body in omega arith
       where
         record_long : (key : Key) → 4 ≤ length (record_bytes 2 (key_body key))
         record_long key = unfold record_bytes word_bytes in omega arith
@@ -271,14 +272,20 @@ module _ {labels : List Label} {classes line : List ℕ} {c t : Path} {s : Set} 
     pub fine_within : used ≤ length after
     fine_within = let e = w.after in let r = w.room in let k = w.kept in omega arith
 
-    body_is : take (used - 4) (drop 4 after) ≡ key_body f.key
+    body_is : take (used - 4) (drop 4 after) ≡ key_body f.read.key
     body_is = sym (drop_of_take 4 used after fine_head) ∙ (ap (drop 4) written ∙ (unfold key_bytes record_bytes word_bytes in refl))
 
-    pub fine_whole : is_some (read_key (take (used - 4) (drop 4 after))) ≡ true
-    fine_whole = ap (λ (l : List ℕ). is_some (read_key l)) body_is ∙ key_is_read f.key
+    pub fine_whole : is_some_key (read_key (take (used - 4) (drop 4 after))) ≡ true
+    fine_whole = ap (λ (l : List ℕ). is_some_key (read_key l)) body_is ∙ key_is_read f.read.key
 
-    pub line_last : {last : ℕ} → last ≡ first_of (key_tests_by classes in_profile (key_in (take (used - 4) (drop 4 after)))) → LineTold labels classes line after last used
-    line_last e =
-        is_typed f.k f.key f.reads f.typed (known_bytes f.known)
-        (e ∙ ap (λ (k : Key). first_of (key_tests_by classes in_profile k)) (ap key_in body_is ∙ key_in_read f.key))
-        (λ z. (written, fine_within))
+    -- 6, or the record
+    module _ (r : Result Unit RefusalKind) (e : told r ≡ first_of (key_tests_by classes in_profile (key_in (take (used - 4) (drop 4 after))))) where
+      of_key : told r ≡ first_of (key_tests_by classes in_profile f.read.key)
+      of_key = e ∙ ap (λ (k : Key). first_of (key_tests_by classes in_profile k)) (ap key_in body_is ∙ key_in_read f.read.key)
+
+      pub line_last : (kind : RefusalKind) → r ≡ Err kind → LineTold labels classes line after (number_of kind) 0
+      line_last kind is =
+          is_typed f.read.k f.read.key f.read.reads f.read.typed (known_bytes f.read.known) (sym (ap told is) ∙ of_key) (λ z. absurd (some_number kind z))
+
+      pub line_whole : {u : Unit} → r ≡ Ok u → LineTold labels classes line after 0 used
+      line_whole is = is_typed f.read.k f.read.key f.read.reads f.read.typed (known_bytes f.read.known) (sym (ap told is) ∙ of_key) (λ z. (written, fine_within))

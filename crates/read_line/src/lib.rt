@@ -1,4 +1,4 @@
-// A whole line (02, request 1): the number that it gives, or the key's record.
+// A whole line: what it is refused for, or the key's record.
 #![tactic(auto)]
 
 pub mod line;

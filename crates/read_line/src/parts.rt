@@ -1,69 +1,58 @@
 // What is asked of the parts of a line before its key is put together.
-ghost use Rattle.std.specs.Prelude.{◌≡◌, ◌&&◌, List, ℕ, ◌≤◌, ◌<◌, length};
+ghost use Rattle.std.specs.Prelude.{◌≡◌, ◌&&◌, List, ℕ, ◌≤◌, ◌<◌, length, ltb, is_some, IfOk, Some};
 ghost use Rattle.meaning.specs.Records.{record_bytes};
+ghost use Rattle.read_judged.specs.Answers.{told};
 ghost use Rattle.read_record.specs.Classes.{good_path_by};
 ghost use Rattle.read_symbols.specs.Scanning.{Slot};
 ghost use Rattle.write_bytes.specs.Wrote.{Wrote};
 ghost use Rattle.write_line.specs.LineParts.{key_part};
-ghost use Rattle.read_line.specs.Told.{parts_number};
+ghost use Rattle.read_line.specs.Told.{by_symbols, by_count, as_refusal};
 
-use read_judged::{ACCEPTED, BAD_KEY_PATHS, BAD_SYMBOLS};
+use read_judged::RefusalKind;
 use read_key::symbols::good_path;
-use read_labels::named::UNKNOWN;
 use read_record::bodies::KEY_KIND;
 use read_record::fields::HEAD_BYTES;
-use read_symbols::path::SYMBOLS;
-use read_symbols::symbol::TORN;
-use read_typed::set::KEY_PATHS;
+use read_symbols::errors::TextError;
+use read_symbols::path::{PathRead, SYMBOLS};
+use read_typed::set::{KEY_PATHS, SetRead};
 use write_bytes::put;
 use write_line::{put_number, put_path, put_word};
 
-// "17 not a line of the grammar, 18 name not in the profile or there with the other class; they come with input 2 before 4, 17 first."
-pub const NOT_A_LINE: usize = 17;
-
-pub const UNKNOWN_NAME: usize = 18;
 // The bytes of a key's record: its head, two paths of 8 symbols, the count and 4 paths, each with its length.
 pub const RECORD_BYTES: usize = 59;
 // The lengths of context and target, and the count of key paths.
 const KEY_LENGTHS: usize = 3;
 
-// A context or target passes 4: it is not too long, and not doubled.
-pub fn path_fits(path: &[u8], count: usize, classes: &[u8; 256]) -> bool
-    requires { length path.now ≡ 9 }
-    ensures { (p : List ℕ) → Slot count path.now p → result ≡ good_path_by classes.now 8 p }
+// "17 not a line of the grammar, 18 name not in the profile or there with the other class; they come with input 2 before 4, 17 first."
+pub fn refused<T: Drop>(read: Result<T, TextError>) -> Result<T, RefusalKind>
+    ensures { result ≡ as_refusal read }
 {
-    if SYMBOLS < count {
-        return false;
-    }
-    good_path(&path[1..count + 1], classes, SYMBOLS)
+    read.map_err(|error| match error {
+        TextError::NotALine => RefusalKind::NotALine,
+        TextError::UnknownName => RefusalKind::UnknownName,
+    })
 }
 
-// 17, 18, 4, or 5 for the count of key paths; 0 where none of them comes.
-pub fn parts_number(highest: usize, context: bool, target: bool, set: bool, count: usize) -> usize
-    ensures { result ≡ parts_number highest (context && target && set) count }
+// A context or target passes 4: it is not too long, and not doubled.
+pub fn path_fits(path: &PathRead, classes: &[u8; 256]) -> bool
+    ensures { (p : List ℕ) → Slot path.now.count path.now.path p → result ≡ good_path_by classes.now 8 p }
 {
-    if highest == TORN {
-        return NOT_A_LINE;
+    path.count <= SYMBOLS && good_path(path.symbols(), classes, SYMBOLS)
+}
+
+// 4, or 5 for the count of key paths; else the bytes that the key paths take.
+pub fn set_bytes(context: bool, target: bool, set: SetRead) -> Result<usize, RefusalKind>
+    ensures number { told result ≡ by_symbols (context && target && is_some set.used) (by_count (ltb set.count 1) (ltb 4 set.count)) }
+    ensures bytes { IfOk result (λ used. set.used ≡ Some used) }
+{
+    if !context || !target {
+        return Err(RefusalKind::BadSymbols);
     }
-    if highest == UNKNOWN {
-        return UNKNOWN_NAME;
+    let used = set.used.ok_or(RefusalKind::BadSymbols)?;
+    if set.count < 1 || KEY_PATHS < set.count {
+        return Err(RefusalKind::BadKeyPaths);
     }
-    if !context {
-        return BAD_SYMBOLS;
-    }
-    if !target {
-        return BAD_SYMBOLS;
-    }
-    if !set {
-        return BAD_SYMBOLS;
-    }
-    if count < 1 {
-        return BAD_KEY_PATHS;
-    }
-    if KEY_PATHS < count {
-        return BAD_KEY_PATHS;
-    }
-    ACCEPTED
+    Ok(used)
 }
 
 // "length and symbols of C; of T; count of key paths; length and symbols of each", with the head before them.

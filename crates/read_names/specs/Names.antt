@@ -1,62 +1,70 @@
 -- Where the first name of a list ends, and how many names there are.
-use Rattle.std.specs.Prelude.{ℕ, zero, suc, ◌+◌, ◌<◌, ◌≤◌, ◌≡◌, refl, List, [], ◌∷◌, length, get_or, take, drop}
-use Rattle.std.proofs.Common.{sym, ◌∙◌, ap, arith, add-one, eq-eqb, ne_eqb, drop_of_length-le}
-use Rattle.std.proofs.Math.Decide.{ℕ_discrete}
+use Rattle.std.specs.Prelude.{ℕ, suc, ◌+◌, ◌<◌, ◌≤◌, ◌≡◌, refl, Bool, true, false, not, cond, Option, None, Some, List, [], ◌∷◌, length, take, drop, eqb, nat_lt}
+use Rattle.std.specs.List.{position, position_or_len}
+use Rattle.std.proofs.Common.{sym, ◌∙◌, ap, arith, add-one, ltb-true, drop_of_length-le}
+use Rattle.std.proofs.lemmas.Bool.{ltb-false}
+use Rattle.std.proofs.lemmas.List.{take_all}
 use Rattle.meaning.specs.Campaign.{names_in}
 use Rattle.theory_campaign.specs.Listings.{first_name, after_name, names_none, names_step, after_shorter}
 
--- no newline stands before a place
-pub record NoneBefore (l : List ℕ) (i : ℕ) : Type 0 where
-  pub each : (j : ℕ) → j < i → get_or l j 0 ≡ 10 → ⊥
-  pub within : i ≤ length l
+abbrev pub is_newline : ℕ → Bool
+is_newline b = eqb b 10
 
-pub record NameEnds (l : List ℕ) (i : ℕ) : Type 0 where
-  pub before : NoneBefore l i
-  pub here : i < length l → get_or l i 0 ≡ 10
+one-add : (n : ℕ) → 1 + n ≡ suc n
+one-add n = omega arith
 
-pub none_start : (l : List ℕ) → NoneBefore l 0
-none_start l = record { each = λ j h. absurd (omega arith); within = omega arith }
-
-pub none_more : {l : List ℕ} {i : ℕ} → NoneBefore l i → i < length l → (get_or l i 0 ≡ 10 → ⊥) → NoneBefore l (i + 1)
-none_more {l} {i} n h m = record { each = λ j k. go j k (ℕ_discrete j i); within = omega arith }
-  where
-    go : (j : ℕ) → j < i + 1 → Dec (j ≡ i) → get_or l j 0 ≡ 10 → ⊥
-    go j k (yes z) e = m (ap (λ (x : ℕ). get_or l x 0) (sym z) ∙ e)
-    go j k (no z) e = n.each j (omega arith) e
-
-pub ends_here : {l : List ℕ} {i : ℕ} → NoneBefore l i → get_or l i 0 ≡ 10 → NameEnds l i
-ends_here n e = record { before = n; here = λ h. e }
-
-pub ends_last : {l : List ℕ} {i : ℕ} → NoneBefore l i → length l ≤ i → NameEnds l i
-ends_last n h = record { before = n; here = λ k. absurd (omega arith) }
-
-behind : {b i : ℕ} {l : List ℕ} → NameEnds (b ∷ l) (suc i) → NameEnds l i
-behind e =
-    record {
-      before = record { each = λ j h. e.before.each (suc j) (omega arith); within = let w = e.before.within in omega arith };
-      here = λ h. e.here (omega arith);
-    }
-
-pub first_is : (l : List ℕ) (i : ℕ) → NameEnds l i → take i l ≡ first_name l
+-- the first newline ends the first name
+first_at : (l : List ℕ) → take (position_or_len is_newline l) l ≡ first_name l
 unfolding first_name
-first_is [] zero e = refl
-first_is [] (suc i) e = refl
-first_is (b ∷ l) zero e = rw (eq-eqb b 10 (e.here (omega arith))) refl
-first_is (b ∷ l) (suc i) e = rw (ne_eqb b 10 (e.before.each 0 (omega arith))) (ap (λ (x : List ℕ). b ∷ x) (first_is l i (behind e)))
+first_at [] = refl
+first_at (b ∷ l) = go (eqb b 10) (first_at l)
+  where
+    go : (c : Bool) → take (position_or_len is_newline l) l ≡ first_name l → take (cond (not c) (1 + position_or_len is_newline l) 0) (b ∷ l) ≡ cond c [] (b ∷ first_name l)
+    go true e = refl
+    go false e = rw one-add (ap (λ (x : List ℕ). b ∷ x) e)
 
-after_suc : (l : List ℕ) (i : ℕ) → NameEnds l i → drop (suc i) l ≡ after_name l
+after_at : (l : List ℕ) → drop (suc (position_or_len is_newline l)) l ≡ after_name l
 unfolding after_name
-after_suc [] i e = refl
-after_suc (b ∷ l) zero e = rw (eq-eqb b 10 (e.here (omega arith))) refl
-after_suc (b ∷ l) (suc i) e = rw (ne_eqb b 10 (e.before.each 0 (omega arith))) (after_suc l i (behind e))
+after_at [] = refl
+after_at (b ∷ l) = go (eqb b 10) (after_at l)
+  where
+    go : (c : Bool) → drop (suc (position_or_len is_newline l)) l ≡ after_name l → drop (suc (cond (not c) (1 + position_or_len is_newline l) 0)) (b ∷ l) ≡ cond c l (after_name l)
+    go true e = refl
+    go false e = rw one-add e
 
-pub after_is : (l : List ℕ) (i : ℕ) → NameEnds l i → drop (i + 1) l ≡ after_name l
-after_is l i e = ap (λ (n : ℕ). drop n l) (add-one i) ∙ after_suc l i e
+module _ (l : List ℕ) {r : Option ℕ} (told : r ≡ position is_newline l) where
+  module _ {i : ℕ} (e : r ≡ Some i) where
+    place : (position_or_len is_newline l < length l) × (i ≡ position_or_len is_newline l)
+    place = at (nat_lt (position_or_len is_newline l) (length l)) refl (sym told ∙ e)
+      where
+        at : (b : Bool) → nat_lt (position_or_len is_newline l) (length l) ≡ b → cond b (Some (position_or_len is_newline l)) None ≡ Some i
+            → (position_or_len is_newline l < length l) × (i ≡ position_or_len is_newline l)
+        at true q s = (ltb-true _ _ q, cc)
+        at false q s = cc
 
-pub after_end : (l : List ℕ) (i : ℕ) → NameEnds l i → length l ≤ i → drop i l ≡ after_name l
-after_end l i e h =
-    let more : length l ≤ i + 1 = omega arith in
-    drop_of_length-le l h ∙ (sym (drop_of_length-le l more) ∙ after_is l i e)
+    pub end_within : i < length l
+    end_within = omega (arith, place)
+
+    pub first_to : take i l ≡ first_name l
+    first_to = rw (place.1) (first_at l)
+
+    pub after_to : drop (i + 1) l ≡ after_name l
+    after_to = rw (place.1, add-one) (after_at l)
+
+  module _ (e : r ≡ None) where
+    past : length l ≤ position_or_len is_newline l
+    past = at (nat_lt (position_or_len is_newline l) (length l)) refl (sym told ∙ e)
+      where
+        at : (b : Bool) → nat_lt (position_or_len is_newline l) (length l) ≡ b → cond b (Some (position_or_len is_newline l)) None ≡ None
+            → length l ≤ position_or_len is_newline l
+        at true q s = cc
+        at false q s = ltb-false _ _ q
+
+    pub first_all : l ≡ first_name l
+    first_all = sym (take_all _ l past) ∙ first_at l
+
+    pub after_none : [] ≡ after_name l
+    after_none = sym (drop_of_length-le l {i = suc (position_or_len is_newline l)} (omega (arith, past))) ∙ after_at l
 
 -- so many names are read, and the rest has the others
 pub record Read (list rest : List ℕ) (count : ℕ) : Type 0 where

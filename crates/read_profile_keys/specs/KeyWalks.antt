@@ -1,5 +1,5 @@
 -- The keys of a profile from the first record that is no label's, beside the walk of `meaning`.
-use Rattle.std.specs.Prelude.{ℕ, zero, suc, ◌+◌, ◌-◌, ◌≤◌, ◌<◌, ◌≡◌, Bool, true, false, ◌||◌, length, take}
+use Rattle.std.specs.Prelude.{ℕ, zero, suc, ◌+◌, ◌-◌, ◌≤◌, ◌<◌, ◌≡◌, Bool, true, false, ◌||◌, Result, Ok, Err, length, take}
 use Rattle.std.proofs.Math.Path.{refl, sym, ap}
 use Rattle.std.proofs.Common.{subst, ap₂, ◌∙◌, arith, add-zero, add-suc, add-one}
 use mathlib.Core.List.{List, [], ◌∷◌, ◌++◌}
@@ -12,6 +12,8 @@ use Rattle.meaning.specs.Records.{word, record_length, record_body, read_key, ke
 use Rattle.meaning.specs.Refusals.{walk, first_of, key_twice, Profile, profile_tests, profile_next}
 use Rattle.meaning.specs.Operations.{records_from}
 use Rattle.read_record.specs.Classes.{Tabled, key_tests_by}
+use Rattle.read_judged.specs.Answers.{number_of}
+use Rattle.read_judged.specs.declared.Fault.{Fault}
 use Rattle.theory_records.specs.Bytes.{Bytes, bytes_drop}
 use Rattle.theory_records.specs.Tests.{numbered, first_stops, first_passes, first_holds, first_fails}
 use Rattle.theory_records.specs.KeyBodies.{key_in_written}
@@ -37,6 +39,11 @@ pub record KeysCame (labels : List Label) (n : ℕ) (bytes : List ℕ) (number k
 pub record KeysSay (classes bytes : List ℕ) (number keys : ℕ) : Type 0 where
   pub few : keys ≤ length bytes
   pub came : (labels : List Label) → Tabled labels classes → (n : ℕ) → KeysCame labels n bytes number keys
+
+-- so many keys and no fault; or the first fault, after so many keys
+abbrev pub KeysTold : (classes bytes : List ℕ) → Result ℕ Fault → Type 0
+KeysTold classes bytes (Ok keys) = KeysSay classes bytes 0 keys
+KeysTold classes bytes (Err fault) = KeysSay classes bytes (number_of fault.kind) fault.place
 
 -- The loop stands after so many keys
 pub record KeysGoing (labels : List Label) (n : ℕ) (bytes : List ℕ) (keys : ℕ) (rest : List ℕ) : Type 0 where

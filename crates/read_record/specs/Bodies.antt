@@ -40,11 +40,14 @@ after_part (m ∷ l) e {n} h = part_to_end (m ∷ l) (n + 1) ∙ (rw (h, add-one
 pub record Ends (left : ℕ) (rest : List ℕ) (w : Bool) : Type 0 where
   pub here : paths_end left rest ≡ w
 
+pub ends_start : {left : ℕ} (count : ℕ) (rest : List ℕ) → left ≡ count → Ends left rest (paths_end count rest)
+ends_start count rest e = rw e (record { here = refl })
+
 pub ends_next : (left : ℕ) (rest : List ℕ) {w : Bool} → Ends left rest w → 0 < left → {r : Bool} → r ≡ holds_path rest → not r ≡ false
-    → {next : List ℕ} → next ≡ after_path rest → Ends (left - 1) next w
+    → {fewer : ℕ} → fewer ≡ left - 1 → {next : List ℕ} → next ≡ after_path rest → Ends fewer next w
 unfolding paths_end
-ends_next zero rest e h s t n = absurd (omega arith)
-ends_next (suc left) rest e h s t n = record { here = rw (sub-one, n) (rw (sym s ∙ not-false _ t) at e.here) }
+ends_next zero rest e h s t f n = absurd (omega arith)
+ends_next (suc left) rest e h s t f n = record { here = rw (f, sub-one, n) (rw (sym s ∙ not-false _ t) at e.here) }
 
 pub ends_stop : (left : ℕ) (rest : List ℕ) {w : Bool} → Ends left rest w → 0 < left → {r : Bool} → r ≡ holds_path rest → not r ≡ true → false ≡ w
 unfolding paths_end

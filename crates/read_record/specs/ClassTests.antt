@@ -1,5 +1,5 @@
 -- The class of a label by the table, as the code's tests find it.
-use Rattle.std.specs.Prelude.{ℕ, ◌≡◌, Bool, cond, List, eqb, get_or}
+use Rattle.std.specs.Prelude.{ℕ, ◌≡◌, Bool, cond, not, List, eqb, get_or}
 use Rattle.std.proofs.Math.Path.{refl, sym}
 use Rattle.std.proofs.Math.Bool.{true, false}
 use Rattle.std.proofs.Common.{true≢false}
@@ -48,3 +48,12 @@ module _ (classes : List ℕ) (n : ℕ) where
       go true d e = absurd (true≢false e)
       go false true e = absurd (true≢false e)
       go false false e = rw (ne_eqb n text_label m)
+
+  pub element_told : (n ≡ text_label → ⊥) → not (is_attribute (class_by classes n)) ≡ is_element (class_by classes n)
+  unfolding class_by is_attribute is_element
+  element_told m = rw (ne_eqb n text_label m) (go (eqb n filler_attribute) (eqb (get_or classes n 0) attribute_class))
+    where
+      go : (b d : Bool) → not (is_attribute (cond b attribute (cond d attribute element))) ≡ is_element (cond b attribute (cond d attribute element))
+      go true d = refl
+      go false true = refl
+      go false false = refl

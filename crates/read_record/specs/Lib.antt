@@ -10,3 +10,6 @@ pub mod Tables
 pub mod KeyPaths
 pub mod PathBytes
 pub mod Hunts
+pub mod Library
+pub mod Steps
+pub mod Seen

@@ -1,10 +1,10 @@
-// Where a record and its body end: document 01, refusal 1.
+// Where a record and its body end.
 ghost use Rattle.std.specs.Prelude.{◌≡◌, true};
 ghost use Rattle.meaning.specs.Records.{read_key, is_some, body_ends};
 ghost use Rattle.meaning.specs.Refusals.{whole as whole_record};
 ghost use Rattle.read_record.specs.BodyParts.{holds_path, lead_path, after_path, paths_end};
 
-use crate::fields::{HEAD_BYTES, KIND_AT, wide, word};
+use crate::fields::{HEAD_BYTES, KIND_AT, word};
 
 // The kinds of record
 pub const LABEL_KIND: usize = 1;
@@ -34,7 +34,7 @@ pub fn holds_path(l: &[u8]) -> bool
     if l.len() == 0 {
         return false;
     }
-    wide(l[0]) <= l.len() - 1
+    usize::from(l[0]) <= l.len() - 1
 }
 
 // The symbols of the path at the front.
@@ -42,7 +42,7 @@ pub fn lead_path(l: &[u8]) -> &[u8]
     requires { holds_path l.now ≡ true }
     ensures { result.now ≡ lead_path l.now }
 {
-    let end = wide(l[0]) + 1;
+    let end = usize::from(l[0]) + 1;
     &l[1..end]
 }
 
@@ -51,7 +51,7 @@ pub fn after_path(l: &[u8]) -> &[u8]
     requires { holds_path l.now ≡ true }
     ensures { result.now ≡ after_path l.now }
 {
-    let end = wide(l[0]) + 1;
+    let end = usize::from(l[0]) + 1;
     &l[end..]
 }
 
@@ -60,16 +60,13 @@ pub fn paths_end(l: &[u8], count: usize) -> bool
     ensures { result ≡ paths_end count l.now }
 {
     let mut rest = l;
-    let mut left = count;
-    while 0 < left {
+    for _ in 0..count {
         if !holds_path(rest) {
             return false;
         }
-        let next = after_path(rest);
-        rest = next;
-        left -= 1;
+        rest = after_path(rest);
     }
-    rest.len() == 0
+    rest.is_empty()
 }
 
 // "length and symbols of C; of T; count of key paths; length and symbols of each"
@@ -87,35 +84,22 @@ pub fn key_shape(body: &[u8]) -> bool
     if set.len() == 0 {
         return false;
     }
-    paths_end(&set[1..], wide(set[0]))
+    paths_end(&set[1..], usize::from(set[0]))
 }
 
 // "its body does not end exactly where its kind says"; an unknown kind says nothing of its body
 pub fn body_ends(kind: usize, body: &[u8]) -> bool
     ensures { result ≡ body_ends kind body.now }
 {
-    if kind == LABEL_KIND {
-        return LABEL_FIELDS <= body.len();
+    match kind {
+        LABEL_KIND => LABEL_FIELDS <= body.len(),
+        KEY_KIND => key_shape(body),
+        NODE_KIND => body.len() == NODE_BODY,
+        WIDE_KIND => body.len() == WIDE_BODY,
+        LINE_KIND => LINE_FIELDS <= body.len() && key_shape(&body[LINE_FIELDS..]),
+        EDITION_KIND => body.len() == 1,
+        _ => true,
     }
-    if kind == KEY_KIND {
-        return key_shape(body);
-    }
-    if kind == NODE_KIND {
-        return body.len() == NODE_BODY;
-    }
-    if kind == WIDE_KIND {
-        return body.len() == WIDE_BODY;
-    }
-    if kind == LINE_KIND {
-        if body.len() < LINE_FIELDS {
-            return false;
-        }
-        return key_shape(&body[LINE_FIELDS..]);
-    }
-    if kind == EDITION_KIND {
-        return body.len() == 1;
-    }
-    true
 }
 
 // 1: "a record is shorter than 4 or runs past the end, or its body does not end exactly where its kind says"

@@ -3,34 +3,25 @@ ghost use Rattle.std.specs.Prelude.{◌≡◌, ◌<◌};
 ghost use Rattle.meaning.specs.Paths.{is_element, is_attribute};
 ghost use Rattle.read_record.specs.Classes.{class_by};
 
-use crate::fields::wide;
 use crate::limits::{FILLER_ATTRIBUTE, TEXT};
 
 // "class (1 element, 2 attribute)"
-const ATTRIBUTE_CLASS: usize = 2;
+const ATTRIBUTE_CLASS: u8 = 2;
 
 pub fn is_attribute(classes: &[u8; 256], label: usize) -> bool
     requires { label < 256 }
     ensures { result ≡ is_attribute (class_by classes.now label) }
 {
-    if label == TEXT {
-        return false;
+    match label {
+        TEXT => false,
+        FILLER_ATTRIBUTE => true,
+        _ => classes[label] == ATTRIBUTE_CLASS,
     }
-    if label == FILLER_ATTRIBUTE {
-        return true;
-    }
-    wide(classes[label]) == ATTRIBUTE_CLASS
 }
 
 pub fn is_element(classes: &[u8; 256], label: usize) -> bool
     requires { label < 256 }
     ensures { result ≡ is_element (class_by classes.now label) }
 {
-    if label == TEXT {
-        return false;
-    }
-    if is_attribute(classes, label) {
-        return false;
-    }
-    true
+    label != TEXT && !is_attribute(classes, label)
 }

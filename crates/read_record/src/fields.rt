@@ -1,4 +1,4 @@
-// The numbers in a record: document 01, "Records".
+// The numbers in a record.
 ghost use Rattle.std.specs.Prelude.{◌≡◌, ◌+◌, ◌<◌, ◌≤◌, length};
 ghost use Rattle.meaning.specs.Records.{word as word_at, number as number_in, read_node};
 ghost use Rattle.meaning.specs.Refusals.{too_many};
@@ -14,21 +14,12 @@ pub const NODE_LABEL_AT: usize = 2;
 
 pub const NODE_VALUE_AT: usize = 3;
 
-// A byte as a number.
-pub fn wide(b: u8) -> usize
-    ensures { (result ≡ b) × (result < 256) }
-{
-    b as usize
-}
-
 // "two bytes, little-endian"
 pub fn word(l: &[u8], at: usize) -> usize
     requires { at + 1 < length l.now }
     ensures { (result ≡ word_at l.now at) × (result < 65536) }
 {
-    let low = wide(l[at]);
-    let high = wide(l[at + 1]);
-    low + BYTE * high
+    usize::from(u16::from_le_bytes([l[at], l[at + 1]]))
 }
 
 // 7: "this key, node or line is one too many (its 4 head bytes decide)"
@@ -38,10 +29,7 @@ pub fn too_many(l: &[u8], kind: usize, limit: usize, count: usize) -> bool
     if l.len() < HEAD_BYTES {
         return false;
     }
-    if word(l, KIND_AT) == kind {
-        return limit <= count;
-    }
-    false
+    word(l, KIND_AT) == kind && limit <= count
 }
 
 // The number that so many bytes say, the lowest first.
@@ -50,10 +38,8 @@ pub fn number(l: &[u8]) -> usize
     ensures { (result ≡ number_in l.now) × (result < 4294967296) }
 {
     let mut n = 0;
-    let mut i = l.len();
-    while 0 < i {
-        i -= 1;
-        n = BYTE * n + wide(l[i]);
+    for i in (0..l.len()).rev() {
+        n = BYTE * n + usize::from(l[i]);
     }
     n
 }
@@ -69,7 +55,7 @@ pub fn node_label(body: &[u8]) -> usize
     requires { 3 ≤ length body.now }
     ensures { (result ≡ (read_node body.now).label) × (result < 256) }
 {
-    wide(body[NODE_LABEL_AT])
+    usize::from(body[NODE_LABEL_AT])
 }
 
 // "a four-byte value as kind 5": what is left of the body is the value.

@@ -1,4 +1,4 @@
-// The parts of a key in its body, none copied: document 01, "Records", kind 2. Each function takes a body that `key_shape` has passed.
+// The parts of a key in its body, none copied. Each function takes a body that `key_shape` has passed.
 ghost use Rattle.std.specs.Prelude.{◌≡◌, true, [], ◌<◌, length, get_or};
 ghost use Rattle.meaning.specs.Lists.{any, is_empty};
 ghost use Rattle.meaning.specs.Records.{read_key, key_in, is_some};
@@ -6,7 +6,6 @@ ghost use Rattle.read_record.specs.BodyParts.{set_in};
 ghost use Rattle.read_record.specs.KeyPaths.{AtPath};
 
 use crate::bodies::{after_path, lead_path};
-use crate::fields::wide;
 
 // The symbols of C.
 pub fn context(body: &[u8]) -> &[u8]
@@ -40,7 +39,7 @@ pub fn count(body: &[u8]) -> usize
     ensures { (result ≡ length (key_in body.now).paths) × (result < 256) }
 {
     let set = counted_set(body);
-    wide(set[0])
+    usize::from(set[0])
 }
 
 // The key paths in place, from the length of the first on: step by `lead_path` and `after_path`.
@@ -58,11 +57,8 @@ pub fn path(body: &[u8], n: usize) -> &[u8]
     ensures { result.now ≡ get_or (key_in body.now).paths n [] }
 {
     let mut rest = paths(body);
-    let mut i = 0;
-    while i < n {
-        let next = after_path(rest);
-        rest = next;
-        i += 1;
+    for _ in 0..n {
+        rest = after_path(rest);
     }
     lead_path(rest)
 }
@@ -74,14 +70,11 @@ pub fn holds_empty(body: &[u8]) -> bool
 {
     let n = count(body);
     let mut rest = paths(body);
-    let mut i = 0;
-    while i < n {
+    for _ in 0..n {
         if lead_path(rest).len() == 0 {
             return true;
         }
-        let next = after_path(rest);
-        rest = next;
-        i += 1;
+        rest = after_path(rest);
     }
     false
 }

@@ -4,6 +4,7 @@
 pub mod bodies;
 pub mod classes;
 pub mod fields;
+pub mod key;
 pub mod keys;
 pub mod limits;
 pub mod names;

@@ -1,5 +1,5 @@
 -- Where the loop begins and where it ends: what its buffers say of the whole file.
-use Rattle.std.specs.Prelude.{ℕ, ◌+◌, ◌*◌, ◌≤◌, ◌<◌, ◌≡◌, Bool, not, length}
+use Rattle.std.specs.Prelude.{ℕ, ◌+◌, ◌*◌, ◌≤◌, ◌<◌, ◌≡◌, Bool, not, Result, Ok, length}
 use Rattle.std.proofs.Math.Path.{refl, ap}
 use Rattle.std.proofs.Common.{sym, subst, ◌∙◌, lt-ltb, le-ltb}
 use Rattle.std.proofs.Math.Bool.{true, false}
@@ -14,8 +14,7 @@ use Rattle.meaning.specs.Records.{node_bytes, value_bytes}
 use Rattle.meaning.specs.Refusals.{Refusal, Walked, sound, walk, first_of, first_refusal, oversize, whole, node_kind_in, tree_limit, tree_tests}
 use Rattle.meaning.specs.Salvage.{Salvaged, nothing_yet, salvage_next, salvage_tests, salvage_walked, salvaged_nodes, salvaged_tree, salvage_refusal}
 use Rattle.read_record.specs.Classes.{Tabled}
-use Rattle.read_judged.specs.declared.Judged.{Judged}
-use Rattle.read_judged.specs.declared.Judged.TheVariants.{Sound}
+use Rattle.read_judged.specs.declared.Fault.{Fault}
 use Rattle.read_judged.specs.Answers.{refusal_of}
 use Rattle.theory_records.specs.Bytes.{Bytes}
 use Rattle.theory_records.specs.Tests.{first_holds, never, not_fails}
@@ -89,7 +88,7 @@ module _ {second : Bool} {kind : ℕ} {classes tree out places reasons : List �
       → ((labels : List Label) (tabled : Tabled labels classes)
       → walk salvage_tests (salvage_next second kind labels) 0 records (loop.going labels tabled).state rest
       ≡ record { number = stopped; at = records; state = (loop.going labels tabled).state })
-      → whole rest ≡ false → {w : ℕ} → w ≡ 7 + value_bytes kind → Salvaging second classes tree out reasons Sound (w * nodes) records stopped
+      → whole rest ≡ false → {w : ℕ} → w ≡ 7 + value_bytes kind → Salvaging second classes tree out reasons (Ok tt) (w * nodes) records stopped
   finish stopped low ends torn {w} told =
       record {
         refusal = λ labels tabled. sound_by second labels tree within (some labels tabled);
@@ -134,7 +133,7 @@ module _ {second : Bool} {kind : ℕ} {classes tree out places reasons : List �
           go false z = (loop.going labels tabled).some z
 
   -- nothing is left
-  pub loop_done : length rest ≤ 0 → {w : ℕ} → w ≡ 7 + value_bytes kind → Salvaging second classes tree out reasons Sound (w * nodes) records 0
+  pub loop_done : length rest ≤ 0 → {w : ℕ} → w ≡ 7 + value_bytes kind → Salvaging second classes tree out reasons (Ok tt) (w * nodes) records 0
   loop_done h = finish 0 (omega arith) (λ labels tabled. ended rest h labels (loop.going labels tabled).state) (torn rest h)
     where
       ended : (l : List ℕ) → length l ≤ 0 → (labels : List Label) (s : Salvaged)
@@ -148,7 +147,7 @@ module _ {second : Bool} {kind : ℕ} {classes tree out places reasons : List �
 
   -- "stops at the first fault of number 1"
   pub loop_torn : 0 < length rest → {b : Bool} → b ≡ whole rest → not b ≡ true → {w : ℕ} → w ≡ 7 + value_bytes kind
-      → Salvaging second classes tree out reasons Sound (w * nodes) records 1
+      → Salvaging second classes tree out reasons (Ok tt) (w * nodes) records 1
   loop_torn h is_whole t =
       let torn : whole rest ≡ false = sym is_whole ∙ not-true _ t in
       finish 1 (omega arith)
@@ -161,7 +160,7 @@ module _ {second : Bool} {kind : ℕ} {classes tree out places reasons : List �
       stop s e = unfold salvage_tests in first_holds 1 [] (not_fails e)
 
 -- A refused file
-refused_salvaging : {second : Bool} {classes tree : List ℕ} {out reasons : List ℕ} (judged : Judged) (r : Refusal) → refusal_of 3 judged ≡ r → (r.number ≡ 0 → ⊥)
+refused_salvaging : {second : Bool} {classes tree : List ℕ} {out reasons : List ℕ} (judged : Result Unit Fault) (r : Refusal) → refusal_of 3 judged ≡ r → (r.number ≡ 0 → ⊥)
     → ((labels : List Label) → Tabled labels classes → r ≡ salvage_refusal second labels tree) → (used records stopped : ℕ)
     → Salvaging second classes tree out reasons judged used records stopped
 refused_salvaging judged r e some says used records stopped =
@@ -169,7 +168,7 @@ refused_salvaging judged r e some says used records stopped =
 
 -- "A file over its size gives 7"
 pub salvage_over : {second : Bool} {classes tree out reasons : List ℕ} {kind w : ℕ} → kind ≡ node_kind_in tree → w ≡ 7 + value_bytes kind → w * 4096 < length tree
-    → (judged : Judged) → refusal_of 3 judged ≡ record { number = 7; input = 3; place = 0 } → (used records stopped : ℕ)
+    → (judged : Result Unit Fault) → refusal_of 3 judged ≡ record { number = 7; input = 3; place = 0 } → (used records stopped : ℕ)
     → Salvaging second classes tree out reasons judged used records stopped
 salvage_over {second} {classes} {tree} {kind = kind} {w} in_file told h judged e =
     refused_salvaging judged (record { number = 7; input = 3; place = 0 }) e (λ z. omega arith) (λ labels tabled. says labels)
@@ -195,7 +194,7 @@ module _ (second : Bool) (classes tree : List ℕ) {kind : ℕ} (in_file : kind 
   salvage_begins e = record { in_file = in_file; size = fits; root = λ labels tabled. sym (root_tests labels tabled) ∙ e }
 
   -- "one without a valid node 0 gives 8"
-  pub salvage_rootless : (r ≡ 0 → ⊥) → {out reasons : List ℕ} (judged : Judged) → refusal_of 3 judged ≡ record { number = 8; input = 3; place = 0 } → (used records stopped : ℕ)
+  pub salvage_rootless : (r ≡ 0 → ⊥) → {out reasons : List ℕ} (judged : Result Unit Fault) → refusal_of 3 judged ≡ record { number = 8; input = 3; place = 0 } → (used records stopped : ℕ)
       → Salvaging second classes tree out reasons judged used records stopped
   salvage_rootless bad judged e = refused_salvaging judged (record { number = 8; input = 3; place = 0 }) e (λ z. omega arith) says
     where

@@ -3,3 +3,4 @@ pub mod Moved
 pub mod Loop
 pub mod Salvaging
 pub mod Ends
+pub mod Told

@@ -1,18 +1,18 @@
 // One record of a damaged tree file, judged beside the nodes kept so far.
 ghost use Rattle.std.specs.Prelude.{◌≡◌, ◌+◌, ◌*◌, ◌<◌, ◌≤◌, true, length, take, drop, get_or};
 ghost use Rattle.meaning.specs.Refusals.{first_of, whole as whole_record};
+ghost use Rattle.read_judged.specs.Answers.{told};
 ghost use Rattle.theory_records.specs.Encodings.{IsNodeKind};
 ghost use Rattle.theory_records.specs.TreeFiles.{stride};
 ghost use Rattle.read_tree.specs.Nodes.{node_tests_by};
 ghost use Rattle.write_bytes.specs.Wrote.{Wrote};
 ghost use Rattle.read_salvage.specs.Moved.{moved_bytes, RecordJudged};
 
-use read_judged::NOT_ALLOWED;
+use read_judged::RefusalKind;
 use read_record::fields::{BYTE, KIND_AT, word};
 use read_record::limits::{LABEL_AT, NO_NUMBER, PARENT_AT};
 use read_tree::nodes::judge_node;
 use tree_table::fields::bytes_of;
-use tree_table::tables::wide;
 use write_bytes::put;
 
 // A damaged file of 45,056 bytes may hold records of 4 bytes.
@@ -31,7 +31,7 @@ fn new_parent(places: &[u16; RECORDS], records: usize, parent: usize) -> usize
     ensures { (result ≡ get_or (take records places.now) parent 65535) × (result < 65536) }
 {
     if parent < records {
-        return wide(places[parent]);
+        return usize::from(places[parent]);
     }
     NO_NUMBER
 }
@@ -55,14 +55,14 @@ fn judge_put(
     classes: &[u8; 256],
     kind: usize,
     second: bool,
-) -> usize
+) -> Result<(), RefusalKind>
     requires { IsNodeKind kind × (at ≡ stride kind * nodes) × (at ≤ length out.now) }
-    ensures { result ≡ first_of (node_tests_by second kind classes.now out.now nodes (drop at out.now)) }
+    ensures { told result ≡ first_of (node_tests_by second kind classes.now out.now nodes (drop at out.now)) }
 {
     judge_node(out, nodes, &out[at..], classes, kind, second)
 }
 
-// The reason of the whole record at the front of `rest`, 0 where it is kept: 2, then 8 and 16 of the node as it is put behind those kept.
+// Why the whole record at the front of `rest` is not kept: 2, then 8 and 16 of the node as it is put behind those kept.
 pub fn judge_record(
     out: &mut [u8],
     rest: &[u8],
@@ -71,12 +71,12 @@ pub fn judge_record(
     classes: &[u8; 256],
     kind: usize,
     second: bool,
-) -> usize
+) -> Result<(), RefusalKind>
     requires { IsNodeKind kind × (stride kind * counts.nodes + length rest.now ≤ length out.old) × (counts.records ≤ 11264) × (length places.now ≡ 11264) × (whole_record rest.now ≡ true) }
-    ensures { RecordJudged second kind classes.now places.now counts.nodes counts.records out.old out.new rest.now result }
+    ensures { RecordJudged second kind classes.now places.now counts.nodes counts.records out.old out.new rest.now (told result) }
 {
     if word(rest, KIND_AT) != kind {
-        return NOT_ALLOWED;
+        return Err(RefusalKind::NotAllowed);
     }
     let nodes = counts.nodes;
     let at = bytes_of(kind) * nodes;

@@ -1,60 +1,56 @@
 // A whole damaged tree file: what is left of it, and the reason of each record.
-ghost use Rattle.std.specs.Prelude.{◌≡◌, ◌<◌, ◌≤◌, length};
-ghost use Rattle.read_judged.specs.Answers.{refusal_of};
+ghost use Rattle.std.specs.Prelude.{◌≡◌, ◌<◌, ◌≤◌, Ok, length};
+ghost use Rattle.read_judged.specs.Answers.{told};
 ghost use Rattle.read_salvage.specs.Loop.{number_by, count_by};
-ghost use Rattle.read_salvage.specs.Salvaging.{Salvaging};
+ghost use Rattle.read_salvage.specs.Told.{SalvagedInto};
 ghost use Rattle.read_salvage.specs.Ends.{Begins};
 
 use crate::records::{Counts, RECORDS, judge_record};
-use read_judged::{ACCEPTED, BAD_NODE, Judged, NOT_WHOLE, TOO_LARGE};
+use read_judged::{Fault, RefusalKind};
 use read_record::bodies::whole;
 use read_record::fields::word;
 use read_record::limits::{NO_NUMBER, TREE_NODES};
 use read_tree::nodes::judge_node;
 use tree_table::fields::{bytes_of, node_kind};
 
-// What the walk comes to: the refusal (7 by its size, 8 without a valid node 0), else the bytes used in `out`, how many records were passed, and
-// the fault that stopped the walk, 1 or 0.
-#[derive(Clone, Copy)]
+// What the walk comes to: the bytes used in `out`, how many records were passed, and whether a fault of number 1 stopped the walk.
+#[derive(Clone, Copy, Debug, PartialEq, Eq)]
 pub struct Passed {
-    pub judged: Judged,
     pub used: usize,
     pub records: usize,
-    pub stopped: usize,
+    pub stopped: bool,
 }
 
-// "A file over its size gives 7, one without a valid node 0 gives 8, both with no output."
-fn refused(number: usize) -> Passed
-    ensures { refusal_of 3 result.judged ≡ record { number = number; input = 3; place = 0 } }
+// The number of a record's reason, 0 where it is kept.
+fn reason_of(judged: Result<(), RefusalKind>) -> usize
+    ensures { result ≡ told judged }
 {
-    Passed {
-        judged: Judged::Refused(number, 0),
-        used: 0,
-        records: 0,
-        stopped: ACCEPTED,
+    match judged {
+        Ok(()) => 0,
+        Err(kind) => kind.number(),
     }
 }
 
 // The new number of a record, 65535 where it is dropped.
-fn new_number(reason: usize, nodes: usize) -> usize
+fn new_number(judged: Result<(), RefusalKind>, nodes: usize) -> usize
     requires { nodes < 65536 }
-    ensures { (result ≡ number_by reason nodes) × (result < 65536) }
+    ensures { (result ≡ number_by (told judged) nodes) × (result < 65536) }
 {
-    if reason == ACCEPTED {
-        return nodes;
+    match judged {
+        Ok(()) => nodes,
+        Err(_) => NO_NUMBER,
     }
-    NO_NUMBER
 }
 
 // How many nodes are kept after the record.
-fn kept_nodes(reason: usize, nodes: usize) -> usize
+fn kept_nodes(judged: Result<(), RefusalKind>, nodes: usize) -> usize
     requires { nodes < 65536 }
-    ensures { result ≡ count_by reason nodes }
+    ensures { result ≡ count_by (told judged) nodes }
 {
-    if reason == ACCEPTED {
-        return nodes + 1;
+    match judged {
+        Ok(()) => nodes + 1,
+        Err(_) => nodes,
     }
-    nodes
 }
 
 fn no_places() -> [u16; RECORDS]
@@ -73,58 +69,62 @@ fn pass_records(
     reasons: &mut [u8; RECORDS],
 ) -> Passed
     requires { Begins second kind classes.now tree.now × (45056 ≤ length out.old) × (length reasons.old ≡ 11264) }
-    ensures { Salvaging second classes.now tree.now out.new reasons.new result.judged result.used result.records result.stopped }
+    ensures { SalvagedInto second classes.now tree.now out.new reasons.new (Ok result) }
 {
     let mut places = no_places();
     let mut rest = tree;
     let mut nodes = 0;
     let mut records = 0;
-    while 0 < rest.len() {
+    // Stays a `while`: because a record is judged before its end is known, and its number is the place of a refusal.
+    while !rest.is_empty() {
         if !whole(rest) {
-            let used = bytes_of(kind) * nodes;
             return Passed {
-                judged: Judged::Sound,
-                used,
+                used: bytes_of(kind) * nodes,
                 records,
-                stopped: NOT_WHOLE,
+                stopped: true,
             };
         }
         let counts = Counts { nodes, records };
-        let reason = judge_record(out, rest, &places, counts, classes, kind, second);
-        reasons[records] = reason as u8;
-        places[records] = new_number(reason, nodes) as u16;
-        nodes = kept_nodes(reason, nodes);
+        let judged = judge_record(out, rest, &places, counts, classes, kind, second);
+        reasons[records] = reason_of(judged) as u8;
+        places[records] = new_number(judged, nodes) as u16;
+        nodes = kept_nodes(judged, nodes);
         records += 1;
         let end = word(rest, 0);
         rest = &rest[end..];
     }
-    let used = bytes_of(kind) * nodes;
     Passed {
-        judged: Judged::Sound,
-        used,
+        used: bytes_of(kind) * nodes,
         records,
-        stopped: ACCEPTED,
+        stopped: false,
     }
 }
 
 // "drops each node record that refusals 2, 8 or 16 would reject, with all its descendants, stops at the first fault of number 1 (listed last),
 // renumbers the rest in order": what is left stands at the front of `out`, the reason of each record (0: kept) at the front of `reasons`.
+// "A file over its size gives 7, one without a valid node 0 gives 8, both with no output."
 pub fn salvage_into(
     tree: &[u8],
     classes: &[u8; 256],
     second: bool,
     out: &mut [u8],
     reasons: &mut [u8; RECORDS],
-) -> Passed
+) -> Result<Passed, Fault>
     requires { (45056 ≤ length out.old) × (length reasons.old ≡ 11264) }
-    ensures { Salvaging second classes.now tree.now out.new reasons.new result.judged result.used result.records result.stopped }
+    ensures { SalvagedInto second classes.now tree.now out.new reasons.new result }
 {
     let kind = node_kind(tree);
     if bytes_of(kind) * TREE_NODES < tree.len() {
-        return refused(TOO_LARGE);
+        return Err(Fault {
+            kind: RefusalKind::TooLarge,
+            place: 0,
+        });
     }
-    if judge_node(tree, 0, tree, classes, kind, second) != ACCEPTED {
-        return refused(BAD_NODE);
+    if judge_node(tree, 0, tree, classes, kind, second).is_err() {
+        return Err(Fault {
+            kind: RefusalKind::BadNode,
+            place: 0,
+        });
     }
-    pass_records(tree, classes, kind, second, out, reasons)
+    Ok(pass_records(tree, classes, kind, second, out, reasons))
 }

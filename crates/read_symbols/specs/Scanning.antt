@@ -1,22 +1,21 @@
 -- A path's text read symbol by symbol, return by return.
-use Rattle.std.specs.Prelude.{ℕ, zero, suc, ◌+◌, ◌-◌, ◌%◌, ◌<◌, ◌≤◌, ◌≡◌, refl, Bool, true, false, drop, replicate}
-use Rattle.std.proofs.Math.Path.{sym, ap, ap₂, subst}
-use Rattle.std.proofs.Common.{◌∙◌, arith, add-one, length-append, take-suc-set}
-use mathlib.Core.List.{List, [], ◌∷◌, ◌++◌, append_assoc, append-nil}
-use Rattle.std.proofs.Math.Nat.{mod-eq_of_lt}
-use Rattle.std.proofs.Math.ListN.{length, take, set, length-set}
+use Rattle.std.specs.Prelude.{ℕ, zero, suc, ◌+◌, ◌≤◌, ◌<◌, ◌≡◌, refl, Bool, true, false, cond, ltb, List, [], ◌∷◌, ◌++◌, length, take, drop, replicate, Result, Ok, Err, IfOk}
+use Rattle.std.proofs.Common.{sym, ap, ap₂, subst, ◌∙◌, arith, add-one, length-append, take-suc-set, set}
+use Rattle.std.proofs.lemmas.Bool.{ltb-false}
 use Rattle.std.proofs.lemmas.List.{length-replicate}
+use Rattle.std.proofs.Math.ListN.{length-set}
 use Rattle.std.proofs.Math.Seq.{take-set-lt}
 use Rattle.meaning.specs.Lists.{same}
 use Rattle.meaning.specs.Paths.{Label}
 use Rattle.meaning.specs.Text.{symbol_of, every_one}
 use Rattle.theory_text.specs.Reading.{read_symbol, read_path}
 use Rattle.read_record.specs.Classes.{ByteAt}
-use Rattle.read_text.specs.Seeking.{Next}
+use Rattle.read_symbols.specs.declared.errors.TextError.{TextError}
+use Rattle.read_symbols.specs.declared.path.PathRead.{PathRead}
 use Rattle.read_symbols.specs.Outcomes
-use Rattle.read_symbols.specs.Outcomes.{Outcome, Higher, Made, behind_all, outcome_small, outcome_read, outcome_more}
-use Rattle.read_symbols.specs.Splitting.{pieces, read_pieces, left_at, left_start, left_end, left_step}
-use Rattle.read_symbols.specs.Symbols.{SymbolTold}
+use Rattle.read_symbols.specs.Outcomes.{Outcome, Made, both, on_ok, behind_all, outcome_map, outcome_read, outcome_more, outcome_counted}
+use Rattle.read_symbols.specs.Splitting.{pieces, read_pieces}
+use Rattle.read_symbols.specs.Symbols.{IsByte, SymbolTold}
 
 -- so many symbols, and where they are not too many: their number and they themselves stand at the front of the slot, as in a record
 pub record Slot (count : ℕ) (path : List ℕ) (p : List ℕ) : Type 0 where
@@ -24,10 +23,26 @@ pub record Slot (count : ℕ) (path : List ℕ) (p : List ℕ) : Type 0 where
   pub stands : count ≤ 8 → take (count + 1) path ≡ count ∷ p
   pub bytes : ByteAt p
 
+-- the symbols behind their number
+abbrev pub symbols_in : PathRead → List ℕ
+symbols_in read = take read.count (drop 1 read.path)
+
+-- what is known of a path that was read
+pub record PathHolds (read : PathRead) (p : List ℕ) : Type 0 where
+  pub slot : Slot read.count read.path p
+  pub size : length read.path ≡ 9
+
 -- what a path's text comes to
-pub record PathTold (labels : List Label) (t : List ℕ) (highest count : ℕ) (path : List ℕ) : Type 0 where
-  pub told : Outcome (read_path t) (every_one (symbol_of labels)) highest (Slot count path)
-  pub size : length path ≡ 9
+pub record PathTold (labels : List Label) (t : List ℕ) (r : Result PathRead TextError) : Type 0 where
+  pub told : Outcome (read_path t) (every_one (symbol_of labels)) r PathHolds
+
+-- one symbol more, which is stored where it fits
+abbrev pub with_byte : PathRead × ℕ → PathRead
+with_byte p =
+    record { count = p.0.count + 1; path = cond (ltb p.0.count 8) (set (set p.0.path 0 (p.0.count + 1)) (p.0.count + 1) p.1) p.0.path }
+
+abbrev pub with_symbol : Result PathRead TextError → Result ℕ TextError → Result PathRead TextError
+with_symbol path symbol = on_ok with_byte (both path symbol)
 
 bytes_behind : (b : List ℕ) (x : ℕ) → ByteAt b → x < 256 → ByteAt (b ++ (x ∷ []))
 bytes_behind [] x h small zero = small
@@ -35,108 +50,79 @@ bytes_behind [] x h small (suc i) = h i
 bytes_behind (y ∷ b) x h small zero = h 0
 bytes_behind (y ∷ b) x h small (suc i) = bytes_behind b x (λ j. h (suc j)) small i
 
--- the loop stands at a place
-pub record Scanning (labels : List Label) (t : List ℕ) (at highest count : ℕ) (path : List ℕ) : Type 0 where
-  pub done : List (List ℕ)
-  pub split : pieces 46 t ≡ done ++ left_at 46 t at
-  pub told : Outcome (every_one read_symbol done) (every_one (symbol_of labels)) highest (Slot count path)
-  pub size : length path ≡ 9
-  pub few : count ≤ at
-  pub within : at ≤ length t + 1
+-- there is room for the symbol, or none
+byte_kept : (v : PathRead × ℕ) (b : List ℕ) (x : ℕ) → PathHolds v.0 b → IsByte v.1 x → PathHolds (with_byte v) (b ++ (x ∷ []))
+byte_kept v b x k z = at (ltb v.0.count 8) refl
+  where
+    counts : v.0.count + 1 ≡ length (b ++ (x ∷ []))
+    counts = omega (arith, length-append b (x ∷ []), k.slot.counted)
 
-pub scan_start : (labels : List Label) (t : List ℕ) → Scanning labels t 0 0 0 (replicate 9 0)
+    bytes : ByteAt (b ++ (x ∷ []))
+    bytes = bytes_behind b x k.slot.bytes (omega (arith, z))
+
+    at : (c : Bool) → ltb v.0.count 8 ≡ c
+        → PathHolds (record { count = v.0.count + 1; path = cond c (set (set v.0.path 0 (v.0.count + 1)) (v.0.count + 1) v.1) v.0.path }) (b ++ (x ∷ []))
+    at true room =
+        record {
+          slot = record {
+            counted = counts;
+            stands = λ fits.
+                ap (λ (m : ℕ). take m (set (set v.0.path 0 (v.0.count + 1)) (v.0.count + 1) v.1)) (add-one (v.0.count + 1))
+                ∙ (take-suc-set (set v.0.path 0 (v.0.count + 1)) (v.0.count + 1) v.1 (omega (arith, length-set v.0.path 0 (v.0.count + 1), k.size))
+                ∙ ap₂ (λ (l : List ℕ) (c : ℕ). l ++ (c ∷ []))
+                (take-set-lt (v.0.count + 1) v.0.path 0 (v.0.count + 1) (omega arith) ∙ ap (λ (l : List ℕ). set l 0 (v.0.count + 1)) (k.slot.stands (omega arith)))
+                (sym z.0));
+            bytes = bytes;
+          };
+          size = length-set (set v.0.path 0 (v.0.count + 1)) (v.0.count + 1) v.1 ∙ (length-set v.0.path 0 (v.0.count + 1) ∙ k.size);
+        }
+    at false full =
+        record { slot = record { counted = counts; stands = λ fits. absurd (let h = ltb-false _ _ full in omega arith); bytes = bytes }; size = k.size }
+
+-- these pieces are read
+pub record Scanning (labels : List Label) (done : List (List ℕ)) (r : Result PathRead TextError) : Type 0 where
+  pub told : Outcome (every_one read_symbol done) (every_one (symbol_of labels)) r PathHolds
+
+pub scan_counted : {labels : List Label} {done : List (List ℕ)} {r : Result PathRead TextError} → Scanning labels done r → IfOk r (λ read. read.count ≡ length done)
+scan_counted {labels} {done} {r} s =
+    IfOk-from_equal r (outcome_counted read_symbol (symbol_of labels) done (λ (read : PathRead). read.count) (λ read p k. k.slot.counted) s.told)
+  where
+    IfOk-from_equal : (r : Result PathRead TextError) → ((u : PathRead) → r ≡ Ok u → u.count ≡ length done) → IfOk r (λ read. read.count ≡ length done)
+    IfOk-from_equal (Ok u) f = f u refl
+    IfOk-from_equal (Err e) f = tt
+
+pub scan_start : (labels : List Label) → Scanning labels [] (Ok (record { count = 0; path = replicate 9 0 }))
 unfolding every_one
-scan_start labels t =
+scan_start labels =
     record {
-      done = [];
-      split = sym (left_start 46 t);
-      told = Outcomes.known [] [] (omega arith) refl refl (record { counted = refl; stands = λ h. refl; bytes = λ i. omega arith });
-      size = length-replicate {A = ℕ} 9 0;
-      few = omega arith;
-      within = omega arith;
+      told =
+          Outcomes.known [] [] _ refl refl refl
+          (record { slot = record { counted = refl; stands = λ h. refl; bytes = λ i. omega arith }; size = length-replicate {A = ℕ} 9 0 });
     }
 
-module _ {labels : List Label} {t : List ℕ} {at highest count : ℕ} {path : List ℕ} (s : Scanning labels t at highest count path) (h : at ≤ length t) {end : ℕ}
-    (n : Next t at 46 end) {code : ℕ} (symbol : SymbolTold labels (take (end - at) (drop at t)) code) {higher : ℕ} (high : Higher highest code higher) where
-  piece : List ℕ
-  piece = take (end - at) (drop at t)
-
-  grown : pieces 46 t ≡ behind_all s.done piece ++ left_at 46 t (end + 1)
-  unfolding behind_all piece
-  grown =
-      s.split
-      ∙ (ap (λ (l : List (List ℕ)). s.done ++ l) (left_step 46 t at h n) ∙ sym (append_assoc s.done (take (end - at) (drop at t) ∷ []) (left_at 46 t (end + 1))))
-
-  both : Outcome (every_one read_symbol (behind_all s.done piece)) (every_one (symbol_of labels)) higher (Made behind_all (Slot count path) (λ (x : ℕ). x ≡ code))
-  unfolding SymbolTold piece
-  both = outcome_more read_symbol (symbol_of labels) s.done (take (end - at) (drop at t)) high s.told symbol
-
-  -- there is room for the symbol
-  pub scan_keep : count < 8 → {number : ℕ} → number ≡ (count + 1) % 256 → {byte : ℕ} → byte ≡ code % 256 → {after : List ℕ}
-      → after ≡ set (set path 0 number) (count + 1) byte → Scanning labels t (end + 1) higher (count + 1) after
-  unfolding Made behind_all
-  scan_keep room {number} e {byte} f written =
-      subst (λ (l : List ℕ). Scanning labels t (end + 1) higher (count + 1) l) (sym written)
-      (record {
-        done = behind_all s.done piece;
-        split = grown;
-        told = outcome_small both keep;
-        size = length-set (set path 0 number) (count + 1) byte ∙ (length-set path 0 number ∙ s.size);
-        few = omega (arith, s.few, n.low);
-        within = omega (arith, n.high);
-      })
-    where
-      keep : higher < 256 → (d : List ℕ) → Made behind_all (Slot count path) (λ (x : ℕ). x ≡ code) d → Slot (count + 1) (set (set path 0 number) (count + 1) byte) d
-      keep small d (b, x, q, k, z) =
-          record {
-            counted = sym (ap length q ∙ (length-append b (x ∷ []) ∙ (omega (arith, k.counted))));
-            stands = λ fits.
-                ap (λ (m : ℕ). take m (set (set path 0 number) (count + 1) byte)) (add-one (count + 1))
-                ∙ (take-suc-set (set path 0 number) (count + 1) byte (omega (arith, length-set path 0 number, s.size))
-                ∙ (ap₂ (λ (l : List ℕ) (c : ℕ). l ++ (c ∷ [])) (take-set-lt (count + 1) path 0 number (omega arith) ∙ ap (λ (l : List ℕ). set l 0 number) (k.stands (omega arith)))
-                (f ∙ (mod-eq_of_lt (omega (arith, high.second)) ∙ sym z))
-                ∙ ap₂ {C = List ℕ} (λ (m : ℕ) (l : List ℕ). m ∷ l) (e ∙ mod-eq_of_lt (omega arith)) (sym q)));
-            bytes = subst ByteAt (sym q) (bytes_behind b x k.bytes (omega (arith, z, high.second)));
-          }
-
-  -- there is none
-  pub scan_over : 8 ≤ count → {after : List ℕ} → after ≡ path → Scanning labels t (end + 1) higher (count + 1) after
-  unfolding Made behind_all
-  scan_over full same =
-      subst (λ (l : List ℕ). Scanning labels t (end + 1) higher (count + 1) l) (sym same)
-      (record {
-        done = behind_all s.done piece;
-        split = grown;
-        told = outcome_small both over;
-        size = s.size;
-        few = omega (arith, s.few, n.low);
-        within = omega (arith, n.high);
-      })
-    where
-      over : higher < 256 → (d : List ℕ) → Made behind_all (Slot count path) (λ (x : ℕ). x ≡ code) d → Slot (count + 1) path d
-      over small d (b, x, q, k, z) =
-          record {
-            counted = sym (ap length q ∙ (length-append b (x ∷ []) ∙ (omega (arith, k.counted))));
-            stands = λ fits. absurd (omega arith);
-            bytes = subst ByteAt (sym q) (bytes_behind b x k.bytes (omega (arith, z, high.second)));
-          }
+pub scan_more : {labels : List Label} {done : List (List ℕ)} {r : Result PathRead TextError} → Scanning labels done r → (piece : List ℕ) (symbol : Result ℕ TextError)
+    → SymbolTold labels piece symbol → {after : Result PathRead TextError} → after ≡ with_symbol r symbol → Scanning labels (done ++ (piece ∷ [])) after
+unfolding SymbolTold behind_all Made
+scan_more {labels} {done} {r} s piece symbol told e =
+    record { told = outcome_map with_byte (λ v p q k. kept v p k) e (outcome_more read_symbol (symbol_of labels) done piece s.told told) }
+  where
+    kept : (v : PathRead × ℕ) (d : List ℕ) → Made behind_all PathHolds IsByte v d → PathHolds (with_byte v) d
+    kept v d (b, x, q, k, z) = subst (λ (l : List ℕ). PathHolds (with_byte v) l) (sym q) (byte_kept v b x k z)
 
 -- "a lone `.` for the empty path"
-pub path_lone : (labels : List Label) (t : List ℕ) {b : Bool} → b ≡ same t (46 ∷ []) → b ≡ true → PathTold labels t 0 0 (replicate 9 0)
+pub path_lone : (labels : List Label) (t : List ℕ) {b : Bool} → b ≡ same t (46 ∷ []) → b ≡ true
+    → PathTold labels t (Ok (record { count = 0; path = replicate 9 0 }))
 unfolding read_path every_one
 path_lone labels t e q =
     record {
-      told = Outcomes.known [] [] (omega arith) (rw (sym e ∙ q)) refl (record { counted = refl; stands = λ h. refl; bytes = λ i. omega arith });
-      size = length-replicate {A = ℕ} 9 0;
+      told =
+          Outcomes.known [] [] _ refl (rw (sym e ∙ q)) refl
+          (record { slot = record { counted = refl; stands = λ h. refl; bytes = λ i. omega arith }; size = length-replicate {A = ℕ} 9 0 });
     }
 
-pub path_read : {labels : List Label} {t : List ℕ} {b : Bool} → b ≡ same t (46 ∷ []) → b ≡ false → {at highest count : ℕ} {path : List ℕ}
-    → Scanning labels t at highest count path → length t < at → PathTold labels t highest count path
-path_read {labels} {t} e q {at} s h =
-    record { told = outcome_read (ap (every_one read_symbol) all ∙ sym reads) s.told; size = s.size }
+pub path_read : {labels : List Label} {t : List ℕ} {b : Bool} → b ≡ same t (46 ∷ []) → b ≡ false → {done : List (List ℕ)} {r : Result PathRead TextError}
+    → Scanning labels done r → done ≡ pieces 46 t → PathTold labels t r
+path_read {labels} {t} e q {done} s all = record { told = outcome_read (ap (every_one read_symbol) all ∙ sym reads) s.told }
   where
-    all : s.done ≡ pieces 46 t
-    all = sym (s.split ∙ (ap (λ (l : List (List ℕ)). s.done ++ l) (left_end 46 t at h) ∙ append-nil s.done))
-
     reads : read_path t ≡ every_one read_symbol (pieces 46 t)
     reads = unfold read_path in rw (sym e ∙ q) (read_pieces (suc (length t)) t (omega arith))

@@ -1,73 +1,65 @@
 // One path.
-ghost use Rattle.std.specs.Prelude.{◌≡◌, ◌%◌};
+ghost use Rattle.std.specs.Prelude.{◌≡◌, ◌<◌, ◌≤◌, IfOk};
 ghost use Rattle.read_entry.specs.Labels.{labels_at};
 ghost use Rattle.read_entry.specs.Repeats.{Standing};
-ghost use Rattle.read_symbols.specs.Outcomes.{Higher};
-ghost use Rattle.read_symbols.specs.Scanning.{PathTold};
+ghost use Rattle.read_symbols.specs.Scanning.{PathTold, symbols_in, with_symbol};
 
+use crate::errors::{TextError, both};
 use crate::symbol::symbol_of;
-use read_record::fields::BYTE;
-use read_record::names::same_bytes;
-use read_text::next::next;
 
 // "a path of 8 symbols"
 pub const SYMBOLS: usize = 8;
 // A path's length and its symbols.
 pub const SLOT: usize = 9;
 
-pub fn higher(a: usize, b: usize) -> usize
-    ensures { Higher a b result }
-{
-    if a < b {
-        return b;
-    }
-    a
-}
-
-fn low(n: usize) -> u8
-    ensures { result ≡ n % 256 }
-{
-    (n % BYTE) as u8
-}
-
-// The highest that a symbol of the path comes to, how many symbols it has, and those that fit with their number before them.
-#[derive(Clone, Copy)]
+// How many symbols a path's text has, and those that fit with their number before them.
+#[derive(Clone, Copy, Debug, PartialEq, Eq)]
 pub struct PathRead {
-    pub highest: usize,
     pub count: usize,
     pub path: [u8; SLOT],
 }
 
-// All of a text of any length is read; "labels joined by dots", "a lone `.` for the empty path".
-pub fn read_path(labels: &[u8], number: usize, t: &[u8]) -> PathRead
-    requires { Standing 6 number labels.now }
-    ensures { PathTold (labels_at number labels.now) t.now result.highest result.count result.path }
+impl PathRead {
+    // Its symbols, where they fit.
+    pub fn symbols(&self) -> &[u8]
+        requires { self.now.count ≤ 8 }
+        ensures { result.now ≡ symbols_in self.now }
+    {
+        &self.path[1..self.count + 1]
+    }
+}
+
+// One symbol more.
+fn add_symbol(
+    path: Result<PathRead, TextError>,
+    symbol: Result<u8, TextError>,
+) -> Result<PathRead, TextError>
+    requires { IfOk path (λ read. read.count < 9223372036854775808) }
+    ensures { result ≡ with_symbol path symbol }
 {
-    let mut path = [0u8; SLOT];
-    let mut highest = 0;
-    let mut count = 0;
-    if same_bytes(t, b".") {
-        return PathRead {
-            highest,
-            count,
-            path,
-        };
+    let (mut read, symbol) = both(path, symbol)?;
+    if read.count < SYMBOLS {
+        read.path[0] = (read.count + 1) as u8;
+        read.path[read.count + 1] = symbol;
     }
-    let mut at = 0;
-    while at <= t.len() {
-        let end = next(t, at, b'.');
-        let code = symbol_of(labels, number, &t[at..end]);
-        highest = higher(highest, code);
-        if count < SYMBOLS {
-            path[0] = low(count + 1);
-            path[count + 1] = low(code);
-        }
-        count += 1;
-        at = end + 1;
+    read.count += 1;
+    Ok(read)
+}
+
+// All of a text of any length is read; "labels joined by dots", "a lone `.` for the empty path".
+pub fn read_path(labels: &[u8], number: usize, t: &[u8]) -> Result<PathRead, TextError>
+    requires { Standing 6 number labels.now }
+    ensures { PathTold (labels_at number labels.now) t.now result }
+{
+    let mut path = Ok(PathRead {
+        count: 0,
+        path: [0; SLOT],
+    });
+    if t == b".".as_slice() {
+        return path;
     }
-    PathRead {
-        highest,
-        count,
-        path,
+    for piece in t.split(|&b| b == b'.') {
+        path = add_symbol(path, symbol_of(labels, number, piece));
     }
+    path
 }

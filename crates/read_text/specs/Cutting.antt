@@ -1,40 +1,130 @@
--- A line cut at its marks, return by return: "one key a line in the manner of document 001: `(port, (frame, {@seq, stamp}))`".
-use Rattle.std.specs.Prelude.{ℕ, ◌+◌, ◌-◌, ◌≤◌, ◌≡◌, Bool, true, false, not, eqb, length, take, drop}
-use Rattle.std.proofs.Math.Path.{refl, ap}
-use Rattle.std.proofs.Common.{sym, ◌∙◌, arith, eqb-true, length-drop, drop_of_length-le, drop-drop}
-use mathlib.Core.List.{List, [], ◌∷◌}
+-- A line cut at its marks, return by return: "one key a line: `(port, (frame, {@seq, stamp}))`".
+use Rattle.std.specs.Prelude.{ℕ, suc, ◌+◌, ◌-◌, ◌≤◌, ◌<◌, ◌≡◌, refl, Bool, true, false, not, ◌&&◌, cond, eqb, nat_lt, List, [], ◌∷◌, ◌++◌, length, take, drop, ◌==◌, unwrap_or}
+use Rattle.std.specs.Prelude as library
+use Rattle.std.specs.List.{position, position_or_len}
+use Rattle.std.specs.Bool.{then_some}
+use Rattle.std.specs.Cmp.Lexicographic.{pointwise}
+use Rattle.std.proofs.Common.{sym, ap, ap₂, ◌∙◌, arith, ltb-true, eqb-true}
+use Rattle.std.proofs.lemmas.Bool.{eqb-false, ltb-false, false≢true}
+use Rattle.std.proofs.lemmas.List.{take_all, drop_all}
 use Rattle.std.proofs.Math.Option.{Option, none, some}
-use Rattle.std.proofs.lemmas.Bool.{not-true, not-false, eqb-false}
-use borrow.Author.Rules.{part_to_end}
-use Rattle.meaning.specs.Records.{and_then, is_some}
+use Rattle.meaning.specs.Records.{and_then}
 use Rattle.meaning.specs.Text.{Typed, TypedKey}
-use Rattle.theory_lists.specs.Bools.{of_true, of_false}
 use Rattle.theory_text.specs.Reading.{up_to, from_the, read_path, read_set, after_the, ended, read_text}
-use Rattle.read_text.specs.Seeking.{Next, begins_behind, begins_long}
+use Rattle.read_text.specs.declared.cut.Cut.{Cut}
 
 -- a key of its parts, where each of them is read
 unfoldable pub together : Option (List Typed) → Option (List Typed) → Option (List (List Typed)) → Option TypedKey
 together context target set =
     and_then context (λ c. and_then target (λ t. and_then set (λ s. some (record { context = c; target = t; paths = s }))))
 
--- the texts of a line that is cut there: the ends of context, target and set, each behind its mark
-unfoldable pub context_text : List ℕ → ℕ → List ℕ
-context_text line context = take (context - 1) (drop 1 line)
+-- the texts of a line that is cut there
+pub record Parts (line context target set : List ℕ) : Type 0 where
+  pub is : line ≡ 40 ∷ (context ++ (44 ∷ 32 ∷ 40 ∷ (target ++ (44 ∷ 32 ∷ 123 ∷ (set ++ (125 ∷ 41 ∷ 41 ∷ []))))))
+  pub reads : read_text line ≡ together (read_path context) (read_path target) (read_set set)
 
-unfoldable pub part_text : List ℕ → ℕ → ℕ → List ℕ
-part_text line before end = take (end - (before + 3)) (drop (before + 3) line)
+abbrev pub CutOf : List ℕ → library.Option Cut → Type 0
+CutOf line library.None = read_text line ≡ none
+CutOf line (library.Some cut) = Parts line cut.context.now cut.target.now cut.set.now
 
-pub record Places (line : List ℕ) (context target set : ℕ) : Type 0 where
-  pub opened : 1 ≤ context
-  pub second : context + 3 ≤ target
-  pub third : target + 3 ≤ set
-  pub ends : set + 3 ≡ length line
-  pub reads :
-      read_text line ≡ together (read_path (context_text line context)) (read_path (part_text line context target)) (read_set (part_text line target set))
+-- ---- the next such byte
+one-add : (n : ℕ) → 1 + n ≡ suc n
+one-add n = omega arith
 
-pub record CutOf (line : List ℕ) (is : Bool) (context target set : ℕ) : Type 0 where
-  pub torn : is ≡ false → read_text line ≡ none
-  pub places : is ≡ true → Places line context target set
+before_at : (x : ℕ) (l : List ℕ) → take (position_or_len (λ b. eqb b x) l) l ≡ up_to x l
+unfolding up_to
+before_at x [] = refl
+before_at x (b ∷ l) = go (eqb b x) (before_at x l)
+  where
+    go : (c : Bool) → take (position_or_len (λ b. eqb b x) l) l ≡ up_to x l
+        → take (cond (not c) (1 + position_or_len (λ b. eqb b x) l) 0) (b ∷ l) ≡ cond c [] (b ∷ up_to x l)
+    go true e = refl
+    go false e = rw one-add (ap (λ (t : List ℕ). b ∷ t) e)
+
+behind_at : (x : ℕ) (l : List ℕ) → drop (position_or_len (λ b. eqb b x) l) l ≡ from_the x l
+unfolding from_the
+behind_at x [] = refl
+behind_at x (b ∷ l) = go (eqb b x) (behind_at x l)
+  where
+    go : (c : Bool) → drop (position_or_len (λ b. eqb b x) l) l ≡ from_the x l
+        → drop (cond (not c) (1 + position_or_len (λ b. eqb b x) l) 0) (b ∷ l) ≡ cond c (b ∷ l) (from_the x l)
+    go true e = refl
+    go false e = rw one-add e
+
+module _ (x : ℕ) (l : List ℕ) {r : library.Option ℕ} (told : r ≡ position (λ b. eqb b x) l) {end : ℕ} (e : end ≡ unwrap_or r (length l)) where
+  -- the end that is used: the place, or the length, where taking and dropping do the same
+  end_is : (end ≤ length l) × (take end l ≡ up_to x l) × (drop end l ≡ from_the x l)
+  end_is = at (nat_lt (position_or_len (λ b. eqb b x) l) (length l)) refl (e ∙ ap (λ (o : library.Option ℕ). unwrap_or o (length l)) told)
+    where
+      at : (b : Bool) → nat_lt (position_or_len (λ b. eqb b x) l) (length l) ≡ b
+          → end ≡ unwrap_or (cond b (library.Some (position_or_len (λ b. eqb b x) l)) library.None) (length l)
+          → (end ≤ length l) × (take end l ≡ up_to x l) × (drop end l ≡ from_the x l)
+      at true q s = let h = ltb-true _ _ q in (omega arith, rw s (before_at x l), rw s (behind_at x l))
+      at false q s =
+          let h = ltb-false _ _ q in
+          (omega arith, take_all _ l (omega arith) ∙ (sym (take_all _ l h) ∙ before_at x l), drop_all _ l (omega arith) ∙ (sym (drop_all _ l h) ∙ behind_at x l))
+
+  pub end_within : end ≤ length l
+  end_within = end_is.0
+
+  pub end_before : take end l ≡ up_to x l
+  end_before = end_is.1
+
+  pub end_behind : drop end l ≡ from_the x l
+  end_behind = end_is.2
+
+cut_whole : (x : ℕ) (l : List ℕ) → l ≡ up_to x l ++ from_the x l
+unfolding up_to from_the
+cut_whole x [] = refl
+cut_whole x (b ∷ l) = go (eqb b x) (cut_whole x l)
+  where
+    go : (c : Bool) → l ≡ up_to x l ++ from_the x l → b ∷ l ≡ cond c [] (b ∷ up_to x l) ++ cond c (b ∷ l) (from_the x l)
+    go true e = refl
+    go false e = ap (λ (t : List ℕ). b ∷ t) e
+
+-- ---- a mark at the front
+strip_none : (mark l : List ℕ) → pointwise ◌==◌ (take (length mark) l) mark ≡ false → after_the mark l ≡ none
+unfolding after_the
+strip_none [] l e = absurd (false≢true (sym e))
+strip_none (x ∷ mark) [] e = refl
+strip_none (x ∷ mark) (b ∷ l) e = go (b == x) e (strip_none mark l)
+  where
+    go : (c : Bool) → (c && pointwise ◌==◌ (take (length mark) l) mark) ≡ false → (pointwise ◌==◌ (take (length mark) l) mark ≡ false → after_the mark l ≡ none)
+        → cond c (after_the mark l) none ≡ none
+    go true e more = more e
+    go false e more = refl
+
+strip_some : (mark l : List ℕ) → pointwise ◌==◌ (take (length mark) l) mark ≡ true → after_the mark l ≡ some (drop (length mark) l)
+unfolding after_the
+strip_some [] l e = refl
+strip_some (x ∷ mark) [] e = absurd (false≢true e)
+strip_some (x ∷ mark) (b ∷ l) e = go (b == x) e (strip_some mark l)
+  where
+    go : (c : Bool) → (c && pointwise ◌==◌ (take (length mark) l) mark) ≡ true
+        → (pointwise ◌==◌ (take (length mark) l) mark ≡ true → after_the mark l ≡ some (drop (length mark) l))
+        → cond c (after_the mark l) none ≡ some (drop (length mark) l)
+    go true e more = more e
+    go false e more = absurd (false≢true e)
+
+behind_mark : (mark l r : List ℕ) → after_the mark l ≡ some r → l ≡ mark ++ r
+unfolding after_the
+behind_mark [] l r e = cc
+behind_mark (x ∷ mark) [] r e = cc
+behind_mark (x ∷ mark) (b ∷ l) r e = go (eqb b x) refl e (behind_mark mark l r)
+  where
+    go : (c : Bool) → eqb b x ≡ c → cond c (after_the mark l) none ≡ some r → (after_the mark l ≡ some r → l ≡ mark ++ r) → b ∷ l ≡ x ∷ (mark ++ r)
+    go true q e more = ap₂ (λ (y : ℕ) (t : List ℕ). y ∷ t) (eqb-true b x q) (more e)
+    go false q e more = cc
+
+-- what `strip_prefix` says
+abbrev pub Missing : List ℕ → List ℕ → Type 0
+Missing mark l = pointwise ◌==◌ (take (length mark) l) mark ≡ false
+
+abbrev pub Stripped : List ℕ → List ℕ → List ℕ → Type 0
+Stripped mark l r = (pointwise ◌==◌ (take (length mark) l) mark ≡ true) × (r ≡ drop (length mark) l) × (length r + length mark ≡ length l)
+
+stripped : (mark l : List ℕ) {r : List ℕ} → Stripped mark l r → after_the mark l ≡ some r
+stripped mark l s = strip_some mark l s.0 ∙ ap some (sym s.1)
 
 -- ---- the reader's steps
 then_none : {A B : Type 0} (o : Option A) (f : A → Option B) → ((a : A) → f a ≡ none) → and_then o f ≡ none
@@ -47,10 +137,13 @@ unfolding and_then
 then_same none f g h = refl
 then_same (some a) f g h = h a
 
-behind_none : {B : Type 0} (o : Option (List ℕ)) (f : List ℕ → Option B) → is_some o ≡ false → and_then o f ≡ none
-unfolding and_then is_some
-behind_none none f e = refl
-behind_none (some a) f e = absurd (of_false true e tt)
+behind : {A B : Type 0} {o : Option A} (f : A → Option B) {a : A} → o ≡ some a → and_then o f ≡ f a
+unfolding and_then
+behind f e = rw e
+
+nothing : {A B : Type 0} {o : Option A} (f : A → Option B) → o ≡ none → and_then o f ≡ none
+unfolding and_then
+nothing f e = rw e
 
 unfoldable from_set : List Typed → List Typed → List ℕ → Option TypedKey
 from_set c t d =
@@ -67,161 +160,104 @@ steps : (line : List ℕ) → read_text line ≡ and_then (after_the (40 ∷ [])
 unfolding read_text from_context from_target from_set
 steps line = refl
 
-not_cut : {line : List ℕ} {context target set : ℕ} → read_text line ≡ none → CutOf line false context target set
-not_cut e = record { torn = λ q. e; places = λ q. absurd (of_true _ q) }
+pub no_open : (line : List ℕ) → Missing (40 ∷ []) line → read_text line ≡ none
+no_open line m = steps line ∙ nothing from_context (strip_none (40 ∷ []) line m)
 
--- the line's first byte
-pub cut_open : (line : List ℕ) {b : Bool} → b ≡ is_some (after_the (40 ∷ []) line) → not b ≡ true → {context target set : ℕ} → CutOf line false context target set
-cut_open line e t = not_cut (steps line ∙ behind_none (after_the (40 ∷ []) line) from_context (sym e ∙ not-true _ t))
+module _ (line : List ℕ) {a : List ℕ} (opened : Stripped (40 ∷ []) line a) {context rest : List ℕ} (its_context : context ≡ up_to 44 a) (behind_context : rest ≡ from_the 44 a) where
+  reads_context : read_text line ≡ from_context a
+  reads_context = steps line ∙ behind from_context (stripped (40 ∷ []) line opened)
 
-module _ (line : List ℕ) {b : Bool} (told : b ≡ is_some (after_the (40 ∷ []) line)) (passed : not b ≡ false) where
-  pub open_long : 1 ≤ length line
-  open_long = begins_long line (40 ∷ []) (sym told ∙ not-false _ passed)
+  pub no_second : Missing (44 ∷ 32 ∷ 40 ∷ []) rest → read_text line ≡ none
+  unfolding from_context
+  no_second m =
+      reads_context
+      ∙ then_none (read_path (up_to 44 a)) _ (λ c. nothing (from_target c) (rw (sym behind_context) (strip_none (44 ∷ 32 ∷ 40 ∷ []) rest m)))
 
-  from_context_lem : read_text line ≡ from_context (drop 1 line)
-  from_context_lem = steps line ∙ ap (λ (o : Option (List ℕ)). and_then o from_context) (begins_behind line (40 ∷ []) (sym told ∙ not-false _ passed)) ∙ (unfold and_then in refl)
-
-  module _ {context : ℕ} (n : Next line 1 44 context) {b₂ : Bool}
-      (told₂ : b₂ ≡ is_some (after_the (44 ∷ 32 ∷ 40 ∷ []) (take (length line - context) (drop context line)))) where
-    second_mark : {c : Bool} → b₂ ≡ c → is_some (after_the (44 ∷ 32 ∷ 40 ∷ []) (from_the 44 (drop 1 line))) ≡ c
-    second_mark q = sym (ap (λ (l : List ℕ). is_some (after_the (44 ∷ 32 ∷ 40 ∷ []) l)) (part_to_end line context ∙ n.rest)) ∙ (sym told₂ ∙ q)
-
-    pub cut_second : not b₂ ≡ true → {context target set : ℕ} → CutOf line false context target set
+  module _ {b : List ℕ} (second : Stripped (44 ∷ 32 ∷ 40 ∷ []) rest b) {target later : List ℕ} (its_target : target ≡ up_to 44 b) (behind_target : later ≡ from_the 44 b) where
+    reads_target : read_text line ≡ and_then (read_path context) (λ c. from_target c b)
     unfolding from_context
-    cut_second t =
-        not_cut
-        (from_context_lem
-        ∙ then_none (read_path (up_to 44 (drop 1 line))) _
-        (λ c. behind_none (after_the (44 ∷ 32 ∷ 40 ∷ []) (from_the 44 (drop 1 line))) (from_target c) (second_mark (not-true _ t))))
+    reads_target =
+        reads_context
+        ∙ (then_same (read_path (up_to 44 a)) _ (λ c. from_target c b)
+        (λ c. behind (from_target c) (rw (sym behind_context) (stripped (44 ∷ 32 ∷ 40 ∷ []) rest second)))
+        ∙ ap (λ (l : List ℕ). and_then (read_path l) (λ c. from_target c b)) (sym its_context))
 
-    module _ (passed₂ : not b₂ ≡ false) where
-      second_behind : after_the (44 ∷ 32 ∷ 40 ∷ []) (from_the 44 (drop 1 line)) ≡ some (drop (context + 3) line)
-      second_behind =
-          begins_behind (from_the 44 (drop 1 line)) (44 ∷ 32 ∷ 40 ∷ []) (second_mark (not-false _ passed₂))
-          ∙ ap (λ (l : List ℕ). some (drop 3 l)) (sym n.rest) ∙ ap some (drop-drop 3 context line)
+    pub no_third : Missing (44 ∷ 32 ∷ 123 ∷ []) later → read_text line ≡ none
+    unfolding from_target
+    no_third m =
+        reads_target
+        ∙ then_none (read_path context) _
+        (λ c. then_none (read_path (up_to 44 b)) _ (λ t. nothing (from_set c t) (rw (sym behind_target) (strip_none (44 ∷ 32 ∷ 123 ∷ []) later m))))
 
-      pub second_long : context + 3 ≤ length line
-      second_long =
-          let h = begins_long (from_the 44 (drop 1 line)) (44 ∷ 32 ∷ 40 ∷ []) (second_mark (not-false _ passed₂)) in
-          let e = ap length n.rest in
-          omega (arith, h, e, length-drop context line, n.high)
+    module _ {d : List ℕ} (third : Stripped (44 ∷ 32 ∷ 123 ∷ []) later d) {set last : List ℕ} (its_set : set ≡ up_to 125 d) (behind_set : last ≡ from_the 125 d) where
+      reads_set : read_text line ≡ and_then (read_path context) (λ c. and_then (read_path target) (λ t. from_set c t d))
+      unfolding from_target
+      reads_set =
+          reads_target
+          ∙ then_same (read_path context) _ (λ c. and_then (read_path target) (λ t. from_set c t d))
+          (λ c.
+          then_same (read_path (up_to 44 b)) _ (λ t. from_set c t d)
+          (λ t. behind (from_set c t) (rw (sym behind_target) (stripped (44 ∷ 32 ∷ 123 ∷ []) later third)))
+          ∙ ap (λ (l : List ℕ). and_then (read_path l) (λ t. from_set c t d)) (sym its_target))
 
-      from_target_lem : read_text line ≡ and_then (read_path (context_text line context)) (λ c. from_target c (drop (context + 3) line))
-      unfolding from_context context_text
-      from_target_lem =
-          from_context_lem
-          ∙ then_same (read_path (up_to 44 (drop 1 line))) _ (λ c. from_target c (drop (context + 3) line))
-          (λ c. ap (λ (o : Option (List ℕ)). and_then o (from_target c)) second_behind ∙ (unfold and_then in refl))
-          ∙ ap (λ (l : List ℕ). and_then (read_path l) (λ c. from_target c (drop (context + 3) line))) (sym n.part)
+      pub no_last : Missing (125 ∷ 41 ∷ 41 ∷ []) last → read_text line ≡ none
+      unfolding from_set
+      no_last m =
+          reads_set
+          ∙ then_none (read_path context) _
+          (λ c. then_none (read_path target) _
+          (λ t. then_none (read_set (up_to 125 d)) _ (λ s. nothing _ (rw (sym behind_set) (strip_none (125 ∷ 41 ∷ 41 ∷ []) last m)))))
 
-      module _ {target : ℕ} (m : Next line (context + 3) 44 target) {b₃ : Bool}
-          (told₃ : b₃ ≡ is_some (after_the (44 ∷ 32 ∷ 123 ∷ []) (take (length line - target) (drop target line)))) where
-        third_mark : {c : Bool} → b₃ ≡ c → is_some (after_the (44 ∷ 32 ∷ 123 ∷ []) (from_the 44 (drop (context + 3) line))) ≡ c
-        third_mark q = sym (ap (λ (l : List ℕ). is_some (after_the (44 ∷ 32 ∷ 123 ∷ []) l)) (part_to_end line target ∙ m.rest)) ∙ (sym told₃ ∙ q)
+      module _ {end : List ℕ} (closed : Stripped (125 ∷ 41 ∷ 41 ∷ []) last end) where
+        reads_end : read_text line
+            ≡ and_then (read_path context) (λ c. and_then (read_path target) (λ t. and_then (read_set set) (λ s. ended (record { context = c; target = t; paths = s }) end)))
+        unfolding from_set
+        reads_end =
+            reads_set
+            ∙ then_same (read_path context) _ (λ c. and_then (read_path target) (λ t. and_then (read_set set) (λ s. ended (record { context = c; target = t; paths = s }) end)))
+            (λ c.
+            then_same (read_path target) _ (λ t. and_then (read_set set) (λ s. ended (record { context = c; target = t; paths = s }) end))
+            (λ t.
+            then_same (read_set (up_to 125 d)) _ (λ s. ended (record { context = c; target = t; paths = s }) end)
+            (λ s. behind (λ e. ended (record { context = c; target = t; paths = s }) e) (rw (sym behind_set) (stripped (125 ∷ 41 ∷ 41 ∷ []) last closed)))
+            ∙ ap (λ (l : List ℕ). and_then (read_set l) (λ s. ended (record { context = c; target = t; paths = s }) end)) (sym its_set)))
 
-        pub cut_third : not b₃ ≡ true → {context target set : ℕ} → CutOf line false context target set
-        unfolding from_target
-        cut_third t =
-            not_cut
-            (from_target_lem
-            ∙ then_none (read_path (context_text line context)) _
-            (λ c. then_none (read_path (up_to 44 (drop (context + 3) line))) _
-            (λ t'. behind_none (after_the (44 ∷ 32 ∷ 123 ∷ []) (from_the 44 (drop (context + 3) line))) (from_set c t') (third_mark (not-true _ t)))))
+        line_is : line ≡ 40 ∷ (context ++ (44 ∷ 32 ∷ 40 ∷ (target ++ (44 ∷ 32 ∷ 123 ∷ (set ++ (125 ∷ 41 ∷ 41 ∷ end))))))
+        line_is =
+            let first = behind_mark (40 ∷ []) line a (stripped (40 ∷ []) line opened) in
+            let after_context = cut_whole 44 a ∙ ap₂ ◌++◌ (sym its_context) (sym behind_context) in
+            let before_target = behind_mark (44 ∷ 32 ∷ 40 ∷ []) rest b (stripped (44 ∷ 32 ∷ 40 ∷ []) rest second) in
+            let after_target = cut_whole 44 b ∙ ap₂ ◌++◌ (sym its_target) (sym behind_target) in
+            let before_set = behind_mark (44 ∷ 32 ∷ 123 ∷ []) later d (stripped (44 ∷ 32 ∷ 123 ∷ []) later third) in
+            let after_set = cut_whole 125 d ∙ ap₂ ◌++◌ (sym its_set) (sym behind_set) in
+            let at_end = behind_mark (125 ∷ 41 ∷ 41 ∷ []) last end (stripped (125 ∷ 41 ∷ 41 ∷ []) last closed) in
+            cc
 
-        module _ (passed₃ : not b₃ ≡ false) where
-          third_behind : after_the (44 ∷ 32 ∷ 123 ∷ []) (from_the 44 (drop (context + 3) line)) ≡ some (drop (target + 3) line)
-          third_behind =
-              begins_behind (from_the 44 (drop (context + 3) line)) (44 ∷ 32 ∷ 123 ∷ []) (third_mark (not-false _ passed₃))
-              ∙ ap (λ (l : List ℕ). some (drop 3 l)) (sym m.rest) ∙ ap some (drop-drop 3 target line)
+        -- something stands behind the last bracket, or nothing
+        pub cut_end : (length end ≡ 0 → Parts line context target set) × ((length end ≡ 0 → ⊥) → read_text line ≡ none)
+        cut_end = at end line_is reads_end
+          where
+            more : (k : TypedKey) (x : ℕ) (l : List ℕ) → ended k (x ∷ l) ≡ none
+            more k x l = unfold ended in refl
 
-          pub third_long : target + 3 ≤ length line
-          third_long =
-              let h = begins_long (from_the 44 (drop (context + 3) line)) (44 ∷ 32 ∷ 123 ∷ []) (third_mark (not-false _ passed₃)) in
-              let e = ap length m.rest in
-              omega (arith, h, e, length-drop target line, m.high)
+            at : (l : List ℕ) → line ≡ 40 ∷ (context ++ (44 ∷ 32 ∷ 40 ∷ (target ++ (44 ∷ 32 ∷ 123 ∷ (set ++ (125 ∷ 41 ∷ 41 ∷ l))))))
+                → read_text line
+                ≡ and_then (read_path context) (λ c. and_then (read_path target) (λ t. and_then (read_set set) (λ s. ended (record { context = c; target = t; paths = s }) l)))
+                → (length l ≡ 0 → Parts line context target set) × ((length l ≡ 0 → ⊥) → read_text line ≡ none)
+            at [] is reads = (λ z. record { is = is; reads = reads ∙ (unfold together ended in refl) }, λ n. absurd (n refl))
+            at (x ∷ l) is reads = (
+              λ z. absurd (omega arith),
+              λ n.
+                  reads
+                  ∙ then_none (read_path context) _
+                  (λ c. then_none (read_path target) _ (λ t. then_none (read_set set) _ (λ s. more (record { context = c; target = t; paths = s }) x l))),
+            )
 
-          from_set_lem : read_text line
-              ≡ and_then (read_path (context_text line context)) (λ c. and_then (read_path (part_text line context target)) (λ t. from_set c t (drop (target + 3) line)))
-          unfolding from_target part_text
-          from_set_lem =
-              from_target_lem
-              ∙ then_same (read_path (context_text line context)) _ (λ c. and_then (read_path (part_text line context target)) (λ t. from_set c t (drop (target + 3) line)))
-              (λ c.
-              then_same (read_path (up_to 44 (drop (context + 3) line))) _ (λ t. from_set c t (drop (target + 3) line))
-              (λ t. ap (λ (o : Option (List ℕ)). and_then o (from_set c t)) third_behind ∙ (unfold and_then in refl))
-              ∙ ap (λ (l : List ℕ). and_then (read_path l) (λ t. from_set c t (drop (target + 3) line))) (sym m.part))
-
-          module _ {set : ℕ} (k : Next line (target + 3) 125 set) {b₄ : Bool}
-              (told₄ : b₄ ≡ is_some (after_the (125 ∷ 41 ∷ 41 ∷ []) (take (length line - set) (drop set line)))) where
-            last_mark : {c : Bool} → b₄ ≡ c → is_some (after_the (125 ∷ 41 ∷ 41 ∷ []) (from_the 125 (drop (target + 3) line))) ≡ c
-            last_mark q = sym (ap (λ (l : List ℕ). is_some (after_the (125 ∷ 41 ∷ 41 ∷ []) l)) (part_to_end line set ∙ k.rest)) ∙ (sym told₄ ∙ q)
-
-            pub cut_last : not b₄ ≡ true → {context target set : ℕ} → CutOf line false context target set
-            unfolding from_set
-            cut_last t =
-                not_cut
-                (from_set_lem
-                ∙ then_none (read_path (context_text line context)) _
-                (λ c. then_none (read_path (part_text line context target)) _
-                (λ t'. then_none (read_set (up_to 125 (drop (target + 3) line))) _
-                (λ s. behind_none (after_the (125 ∷ 41 ∷ 41 ∷ []) (from_the 125 (drop (target + 3) line))) _ (last_mark (not-true _ t))))))
-
-            module _ (passed₄ : not b₄ ≡ false) where
-              last_behind : after_the (125 ∷ 41 ∷ 41 ∷ []) (from_the 125 (drop (target + 3) line)) ≡ some (drop (set + 3) line)
-              last_behind =
-                  begins_behind (from_the 125 (drop (target + 3) line)) (125 ∷ 41 ∷ 41 ∷ []) (last_mark (not-false _ passed₄))
-                  ∙ ap (λ (l : List ℕ). some (drop 3 l)) (sym k.rest) ∙ ap some (drop-drop 3 set line)
-
-              pub last_long : set + 3 ≤ length line
-              last_long =
-                  let h = begins_long (from_the 125 (drop (target + 3) line)) (125 ∷ 41 ∷ 41 ∷ []) (last_mark (not-false _ passed₄)) in
-                  let e = ap length k.rest in
-                  omega (arith, h, e, length-drop set line, k.high)
-
-              from_end : read_text line
-                  ≡ and_then (read_path (context_text line context)) (λ c. and_then (read_path (part_text line context target))
-                  (λ t. and_then (read_set (part_text line target set)) (λ s. ended (record { context = c; target = t; paths = s }) (drop (set + 3) line))))
-              unfolding from_set part_text
-              from_end =
-                  from_set_lem
-                  ∙ then_same (read_path (context_text line context)) _ (λ c. and_then (read_path (part_text line context target)) (λ t. and_then (read_set (part_text line target set)) (λ s. ended (record { context = c; target = t; paths = s }) (drop (set + 3) line))))
-                  (λ c.
-                  then_same (read_path (part_text line context target)) _ (λ t. and_then (read_set (part_text line target set)) (λ s. ended (record { context = c; target = t; paths = s }) (drop (set + 3) line)))
-                  (λ t.
-                  then_same (read_set (up_to 125 (drop (target + 3) line))) _ (λ s. ended (record { context = c; target = t; paths = s }) (drop (set + 3) line))
-                  (λ s. ap (λ (o : Option (List ℕ)). and_then o (λ e. ended (record { context = c; target = t; paths = s }) e)) last_behind ∙ (unfold and_then in refl))
-                  ∙ ap (λ (l : List ℕ). and_then (read_set l) (λ s. ended (record { context = c; target = t; paths = s }) (drop (set + 3) line))) (sym k.part)))
-
-              -- something stands behind the last bracket, or nothing
-              pub cut_end : {r : Bool} → r ≡ eqb (length line) (set + 3) → CutOf line r context target set
-              cut_end q = record { torn = λ f. longer (eqb-false _ _ (sym q ∙ f)); places = λ t. exact (eqb-true _ _ (sym q ∙ t)) }
-                where
-                  more : (length line ≡ set + 3 → ⊥) → (k : TypedKey) → ended k (drop (set + 3) line) ≡ none
-                  more ne k = go (drop (set + 3) line) (length-drop (set + 3) line)
-                    where
-                      go : (l : List ℕ) → length l ≡ length line - (set + 3) → ended k l ≡ none
-                      go [] e = absurd (ne (let h = last_long in omega (arith, e, h)))
-                      go (x ∷ l) e = unfold ended in refl
-
-                  longer : (length line ≡ set + 3 → ⊥) → read_text line ≡ none
-                  longer ne =
-                      from_end
-                      ∙ then_none (read_path (context_text line context)) _
-                      (λ c. then_none (read_path (part_text line context target)) _
-                      (λ t. then_none (read_set (part_text line target set)) _ (λ s. more ne (record { context = c; target = t; paths = s }))))
-
-                  exact : length line ≡ set + 3 → Places line context target set
-                  exact e =
-                      record {
-                        opened = n.low;
-                        second = m.low;
-                        third = k.low;
-                        ends = sym e;
-                        reads =
-                            from_end
-                            ∙ ap
-                            (λ (l : List ℕ). and_then (read_path (context_text line context)) (λ c. and_then (read_path (part_text line context target))
-                            (λ t. and_then (read_set (part_text line target set)) (λ s. ended (record { context = c; target = t; paths = s }) l))))
-                            (drop_of_length-le line {i = set + 3} (omega arith))
-                            ∙ (unfold together ended in refl);
-                      }
+pub cut_told : {line : List ℕ} (end : List ℕ) (cut : Cut)
+    → (length end ≡ 0 → Parts line cut.context.now cut.target.now cut.set.now) × ((length end ≡ 0 → ⊥) → read_text line ≡ none)
+    → {b : Bool} {o : library.Option Cut} → o ≡ then_some b cut → b ≡ (length end == 0) → CutOf line o
+cut_told {line} end cut ended-so {b} told e = rw told (at b e)
+  where
+    at : (b : Bool) → b ≡ (length end == 0) → CutOf line (then_some b cut)
+    at true e = ended-so.0 (eqb-true _ _ (sym e))
+    at false e = ended-so.1 (eqb-false _ _ (sym e))

@@ -1,3 +1,2 @@
--- What the cutting of a line says, and its laws.
-pub mod Seeking
+-- A line cut at its marks, and its laws.
 pub mod Cutting

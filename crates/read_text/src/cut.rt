@@ -1,51 +1,36 @@
 // A line cut at its marks: "exactly one space after each comma" and nowhere else.
+ghost use Rattle.std.specs.Prelude.{◌≡◌};
+ghost use Rattle.theory_text.specs.Reading.{up_to, from_the};
 ghost use Rattle.read_text.specs.Cutting.{CutOf};
 
-use crate::next::{begins, next};
+// The texts of a line's context, target and set.
+#[derive(Clone, Copy, Debug, PartialEq, Eq)]
+pub struct Cut<'a> {
+    pub context: &'a [u8],
+    pub target: &'a [u8],
+    pub set: &'a [u8],
+}
 
-// The bytes of `(`, and of each mark behind it: `, (`, `, {` and `}))`.
-pub const OPEN_BYTES: usize = 1;
-
-pub const MARK_BYTES: usize = 3;
-
-// Whether the marks stand where they have to; and where the texts of context, target and set end.
-#[derive(Clone, Copy)]
-pub struct Cut {
-    pub is: bool,
-    pub context: usize,
-    pub target: usize,
-    pub set: usize,
+// What stands before the next such byte, and what stands from it on: all and nothing where there is none.
+fn cut_at(text: &[u8], stop: u8) -> (&[u8], &[u8])
+    ensures before { result.0.now ≡ up_to stop text.now }
+    ensures behind { result.1.now ≡ from_the stop text.now }
+{
+    let end = text.iter().position(|&b| b == stop).unwrap_or(text.len());
+    text.split_at(end)
 }
 
 // A comma ends a path's text, and a brace the set's: neither stands in it.
-pub fn cut_line(line: &[u8]) -> Cut
-    ensures { CutOf line.now result.is result.context result.target result.set }
+pub fn cut_line(line: &[u8]) -> Option<Cut<'_>>
+    ensures { CutOf line.now result }
 {
-    let torn = Cut {
-        is: false,
-        context: 0,
-        target: 0,
-        set: 0,
-    };
-    if !begins(line, b"(") {
-        return torn;
-    }
-    let context = next(line, OPEN_BYTES, b',');
-    if !begins(&line[context..], b", (") {
-        return torn;
-    }
-    let target = next(line, context + MARK_BYTES, b',');
-    if !begins(&line[target..], b", {") {
-        return torn;
-    }
-    let set = next(line, target + MARK_BYTES, b'}');
-    if !begins(&line[set..], b"}))") {
-        return torn;
-    }
-    Cut {
-        is: line.len() == set + MARK_BYTES,
+    let (context, rest) = cut_at(line.strip_prefix(b"(")?, b',');
+    let (target, rest) = cut_at(rest.strip_prefix(b", (")?, b',');
+    let (set, rest) = cut_at(rest.strip_prefix(b", {")?, b'}');
+    let end = rest.strip_prefix(b"}))")?;
+    end.is_empty().then_some(Cut {
         context,
         target,
         set,
-    }
+    })
 }

@@ -3,15 +3,16 @@ ghost use Rattle.std.specs.Prelude.{◌≡◌, suc, ◌+◌, ◌-◌, ◌*◌, �
 ghost use Rattle.meaning.specs.Records.{read_node};
 ghost use Rattle.meaning.specs.Refusals.{first_of, good_root};
 ghost use Rattle.read_record.specs.Classes.{is_label_by};
+ghost use Rattle.read_judged.specs.Answers.{told};
 ghost use Rattle.theory_records.specs.Encodings.{IsNodeKind};
 ghost use Rattle.theory_records.specs.TreeFiles.{stride};
 ghost use Rattle.read_tree.specs.Nodes.{good_below_by, good_node_by, scan, is_twin, body_tests_by, node_tests_by};
 
-use read_judged::{ACCEPTED, BAD_NODE, NOT_ALLOWED, NOT_WHOLE, REPEATED, TOO_LARGE};
+use read_judged::RefusalKind;
 use read_record::bodies::whole;
 use read_record::classes::{is_attribute, is_element};
 use read_record::fields::{
-    HEAD_BYTES, KIND_AT, node_label, node_parent, node_value, too_many, wide, word,
+    HEAD_BYTES, KIND_AT, node_label, node_parent, node_value, too_many, word,
 };
 use read_record::limits::{
     FILLER_ATTRIBUTE, FILLER_ELEMENT, LABEL_AT, NO_NUMBER, PARENT_AT, ROOT_LABEL, TEXT, TREE_NODES,
@@ -62,7 +63,7 @@ fn good_below(bytes: &[u8], nodes: usize, body: &[u8], classes: &[u8; 256], long
     if nodes <= parent {
         return false;
     }
-    let above = wide(bytes[long * parent + LABEL_AT]);
+    let above = usize::from(bytes[long * parent + LABEL_AT]);
     if !is_element(classes, above) {
         return false;
     }
@@ -95,7 +96,7 @@ fn is_twin(bytes: &[u8], i: usize, parent: usize, label: usize, long: usize) -> 
     if word(bytes, long * i + PARENT_AT) != parent {
         return false;
     }
-    wide(bytes[long * i + LABEL_AT]) == label
+    usize::from(bytes[long * i + LABEL_AT]) == label
 }
 
 // Some node has, from number parent + 1 on: children stand behind their parent.
@@ -103,12 +104,10 @@ fn has_twin(bytes: &[u8], nodes: usize, parent: usize, label: usize, long: usize
     requires { (9 ≤ long) × (long * nodes ≤ length bytes.now) × (parent < 65536) }
     ensures { result ≡ scan (is_twin long bytes.now parent label) (nodes - suc parent) (suc parent) }
 {
-    let mut i = parent + 1;
-    while i < nodes {
+    for i in parent + 1..nodes {
         if is_twin(bytes, i, parent, label, long) {
             return true;
         }
-        i += 1;
     }
     false
 }
@@ -121,28 +120,28 @@ fn judge_body(
     classes: &[u8; 256],
     long: usize,
     second: bool,
-) -> usize
+) -> Result<(), RefusalKind>
     requires { (9 ≤ long) × (long * nodes ≤ length bytes.now) × (3 ≤ length body.now) × (length body.now ≤ 7) }
-    ensures { result ≡ first_of (body_tests_by long second classes.now bytes.now nodes (read_node body.now)) }
+    ensures { told result ≡ first_of (body_tests_by long second classes.now bytes.now nodes (read_node body.now)) }
 {
     if !good_node(bytes, nodes, body, classes, long) {
-        return BAD_NODE;
+        return Err(RefusalKind::BadNode);
     }
     if !second {
-        return ACCEPTED;
+        return Ok(());
     }
     let label = node_label(body);
     if !is_attribute(classes, label) {
-        return ACCEPTED;
+        return Ok(());
     }
     let parent = node_parent(body);
     if has_twin(bytes, nodes, parent, label, long) {
-        return REPEATED;
+        return Err(RefusalKind::Repeated);
     }
-    ACCEPTED
+    Ok(())
 }
 
-// The number that the node record at the front of `rest` gives, after so many nodes of the kind at the front of `bytes`.
+// What the node record at the front of `rest` gives, after so many nodes of the kind at the front of `bytes`.
 pub fn judge_node(
     bytes: &[u8],
     nodes: usize,
@@ -150,18 +149,18 @@ pub fn judge_node(
     classes: &[u8; 256],
     kind: usize,
     second: bool,
-) -> usize
+) -> Result<(), RefusalKind>
     requires { IsNodeKind kind × (stride kind * nodes ≤ length bytes.now) }
-    ensures { result ≡ first_of (node_tests_by second kind classes.now bytes.now nodes rest.now) }
+    ensures { told result ≡ first_of (node_tests_by second kind classes.now bytes.now nodes rest.now) }
 {
     if too_many(rest, kind, TREE_NODES, nodes) {
-        return TOO_LARGE;
+        return Err(RefusalKind::TooLarge);
     }
     if !whole(rest) {
-        return NOT_WHOLE;
+        return Err(RefusalKind::NotWhole);
     }
     if word(rest, KIND_AT) != kind {
-        return NOT_ALLOWED;
+        return Err(RefusalKind::NotAllowed);
     }
     let end = word(rest, 0);
     let long = bytes_of(kind);

@@ -6,7 +6,7 @@ ghost use Rattle.read_record.specs.Classes.{Tabled};
 ghost use Rattle.read_judged.specs.Answers.{refusal_of};
 
 use crate::nodes::judge_node;
-use read_judged::{ACCEPTED, BAD_NODE, Judged, TOO_LARGE};
+use read_judged::{Fault, Judged, RefusalKind, at_record};
 use read_record::bodies::WIDE_KIND;
 use read_record::fields::word;
 use tree_table::fields::node_kind;
@@ -31,21 +31,25 @@ pub fn read_tree(bytes: &[u8], classes: &[u8; 256], second: bool) -> Judged
 {
     let kind = node_kind(bytes);
     if tree_limit(kind) < bytes.len() {
-        return Judged::Refused(TOO_LARGE, 0);
+        return Err(Fault {
+            kind: RefusalKind::TooLarge,
+            place: 0,
+        });
     }
-    if bytes.len() == 0 {
-        return Judged::Refused(BAD_NODE, 0);
+    if bytes.is_empty() {
+        return Err(Fault {
+            kind: RefusalKind::BadNode,
+            place: 0,
+        });
     }
     let mut rest = bytes;
     let mut nodes = 0;
-    while 0 < rest.len() {
-        let number = judge_node(bytes, nodes, rest, classes, kind, second);
-        if number != ACCEPTED {
-            return Judged::Refused(number, nodes);
-        }
+    // Stays a `while`: because a record is judged before its end is known, and its number is the place of a refusal.
+    while !rest.is_empty() {
+        at_record(judge_node(bytes, nodes, rest, classes, kind, second), nodes)?;
         let end = word(rest, 0);
         rest = &rest[end..];
         nodes += 1;
     }
-    Judged::Sound
+    Ok(())
 }

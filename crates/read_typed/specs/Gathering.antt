@@ -1,11 +1,9 @@
 -- The paths of a set as they come, put into record order, return by return.
-use Rattle.std.specs.Prelude.{ℕ, suc, ◌+◌, ◌-◌, ◌*◌, ◌<◌, ◌≤◌, ◌≡◌, Bool, true, false, not, ltb, take, drop}
-use Rattle.std.proofs.Math.Path.{refl, sym, ap, ap₂, subst}
-use Rattle.std.proofs.Common.{◌∙◌, arith, lt-ltb}
-use Rattle.std.proofs.Math.Bool.{◌&&◌}
-use mathlib.Core.List.{List, [], ◌∷◌, ◌++◌, flatten, append_assoc, append-nil}
+use Rattle.std.specs.Prelude as library
+use Rattle.std.specs.Prelude.{ℕ, suc, ◌+◌, ◌-◌, ◌*◌, ◌<◌, ◌≤◌, ◌≡◌, refl, Bool, true, false, not, ◌&&◌, ltb, List, [], ◌∷◌, length, take, drop, Result, Ok, Err, is_some, unwrap_or}
+use Rattle.std.proofs.Common.{sym, ap, ap₂, subst, ◌∙◌, arith, lt-ltb, length-append}
 use Rattle.std.proofs.lemmas.Bool.{lt-leb, not-true, not-false}
-use Rattle.std.proofs.Math.ListN.{length, length-append}
+use mathlib.Core.List.{flatten}
 use Rattle.meaning.specs.Lists.{every}
 use Rattle.meaning.specs.Paths.{Label, normal, simple}
 use Rattle.meaning.specs.Text.{symbol_of, every_one, put_path, in_record_order}
@@ -13,14 +11,16 @@ use Rattle.theory_lists.specs.Bools.{of_true}
 use Rattle.theory_text.specs.Reading.{read_path, read_set}
 use Rattle.read_record.specs.Classes.{ByteAt, is_symbol_by, good_path_by}
 use Rattle.read_key.specs.Symbols.{good_key_path}
-use Rattle.read_text.specs.Seeking.{Next}
+use Rattle.read_symbols.specs.declared.errors.TextError.{TextError}
+use Rattle.read_symbols.specs.declared.path.PathRead.{PathRead}
 use Rattle.read_symbols.specs.Outcomes
-use Rattle.read_symbols.specs.Outcomes.{Outcome, Higher, Made, behind_all, outcome_small, outcome_read, outcome_more}
-use Rattle.read_symbols.specs.Scanning.{Slot, PathTold}
+use Rattle.read_symbols.specs.Outcomes.{Outcome, Made, both, on_ok, behind_all, outcome_map, outcome_read, outcome_more, outcome_counted}
+use Rattle.read_symbols.specs.Scanning.{Slot, PathHolds, PathTold, symbols_in}
 use Rattle.write_set.specs.Encoded.{SetIn, set_in, bytes_of}
 use Rattle.write_set.specs.Inserts.{drop_of_take}
 use Rattle.write_order.specs.Inserts.{InsertFits, Inserted}
-use Rattle.read_typed.specs.Texts.{texts, text_at, left_texts, texts_start, texts_end, texts_step, read_set_texts}
+use Rattle.read_typed.specs.declared.set.SetRead.{SetRead}
+use Rattle.read_typed.specs.Texts.{texts, read_set_texts}
 
 -- a path of bytes
 unfoldable pub is_bytes : List ℕ → Bool
@@ -39,23 +39,34 @@ pub record Kept (classes out : List ℕ) (fits : Bool) (count used : ℕ) (ps : 
   pub stands : fits ≡ true → count ≤ 4 → SetIn out count used (in_record_order [] ps)
   pub short : fits ≡ true → count ≤ 4 → used ≤ 9 * count
 
-pub record SetHolds (labels : List Label) (classes : List ℕ) (done : List (List ℕ)) (out : List ℕ) (highest : ℕ) (fits : Bool) (count used : ℕ) : Type 0 where
-  pub told : Outcome (every_one read_path done) (every_one (every_one (symbol_of labels))) highest (Kept classes out fits count used)
+-- of a set that was read: each path passes 4 where the bytes used are said
+abbrev pub Gathered : List ℕ → List ℕ → SetRead → List (List ℕ) → Type 0
+Gathered classes out set ps = Kept classes out (is_some set.used) set.count (unwrap_or set.used 0) ps
+
+pub record SetHolds (labels : List Label) (classes : List ℕ) (done : List (List ℕ)) (out : List ℕ) (r : Result SetRead TextError) : Type 0 where
+  pub told : Outcome (every_one read_path done) (every_one (every_one (symbol_of labels))) r (Gathered classes out)
   pub room : length out ≡ 36
 
-pub record SetReady (labels : List Label) (classes out : List ℕ) (highest : ℕ) (fits : Bool) (count used : ℕ) : Type 0 where
+pub record SetReady (labels : List Label) (classes out : List ℕ) (r : Result SetRead TextError) : Type 0 where
   pub done : List (List ℕ)
-  pub holds : SetHolds labels classes done out highest fits count used
-  pub few : count < 9223372036854775808
+  pub holds : SetHolds labels classes done out r
+  pub few : length done < 9223372036854775808
 
 -- what a set's text comes to
-pub record SetTold (labels : List Label) (classes t out : List ℕ) (highest : ℕ) (fits : Bool) (count used : ℕ) : Type 0 where
-  pub told : Outcome (read_set t) (every_one (every_one (symbol_of labels))) highest (Kept classes out fits count used)
+pub record SetTold (labels : List Label) (classes t out : List ℕ) (r : Result SetRead TextError) : Type 0 where
+  pub told : Outcome (read_set t) (every_one (every_one (symbol_of labels))) r (Gathered classes out)
   pub room : length out ≡ 36
 
+pub set_counted : {labels : List Label} {classes : List ℕ} {done : List (List ℕ)} {out : List ℕ} {r : Result SetRead TextError} → SetHolds labels classes done out r
+    → {set : SetRead} → r ≡ Ok set → set.count ≡ length done
+set_counted {done = done} holds e =
+    outcome_counted read_path (every_one (symbol_of _)) done (λ (set : SetRead). set.count) (λ set ps k. k.counted) holds.told _ e
+
 -- the symbols in a slot
-pub slot_symbols : {count : ℕ} {path p : List ℕ} → Slot count path p → count ≤ 8 → take (count + 1 - 1) (drop 1 path) ≡ p
-slot_symbols {count} {path} s h = sym (drop_of_take 1 (count + 1) path (omega arith)) ∙ ap (drop 1) (s.stands h)
+pub slot_symbols : {count : ℕ} {path p : List ℕ} → Slot count path p → count ≤ 8 → take count (drop 1 path) ≡ p
+slot_symbols {count} {path} s h =
+    let e : count ≡ count + 1 - 1 = omega arith in
+    ap (λ (n : ℕ). take n (drop 1 path)) e ∙ (sym (drop_of_take 1 (count + 1) path (omega arith)) ∙ ap (drop 1) (s.stands h))
 
 every_more : (f : List ℕ → Bool) (ps : List (List ℕ)) (p : List ℕ) → every f (behind_all ps p) ≡ (every f ps && f p)
 unfolding every behind_all
@@ -86,123 +97,136 @@ long_path classes p h = rw (lt-leb (length p) 8 h) (go (every (is_symbol_by clas
     go true = refl
     go false = refl
 
-module _ {labels : List Label} {classes out : List ℕ} {highest : ℕ} {fits : Bool} {count used : ℕ} {done : List (List ℕ)}
-    (holds : SetHolds labels classes done out highest fits count used) {text : List ℕ} {high symbols : ℕ} {path : List ℕ} (told : PathTold labels text high symbols path)
-    {m : ℕ} (higher : Higher highest high m) where
-  both : Outcome (every_one read_path (behind_all done text)) (every_one (every_one (symbol_of labels))) m (Made behind_all (Kept classes out fits count used) (Slot symbols path))
-  both = outcome_more read_path (every_one (symbol_of labels)) done text higher holds.told told.told
-
-  -- where all is known so far: what the set says with the path
-  grows : {after : List ℕ} {v : Bool} {end : ℕ} → length after ≡ 36
-      → (m < 256 → (ps : List (List ℕ)) (p : List ℕ) → Kept classes out fits count used ps → Slot symbols path p → v ≡ (every (good_key_path classes 8) ps && good_key_path classes 8 p))
-      → (m < 256 → (ps : List (List ℕ)) (p : List ℕ) → Kept classes out fits count used ps → Slot symbols path p → v ≡ true → count + 1 ≤ 4
-      → SetIn after (count + 1) end (put_path p (in_record_order [] ps)) × (end ≤ 9 * (count + 1)))
-      → SetHolds labels classes (behind_all done text) after m v (count + 1) end
-  unfolding Made
-  grows {after} {v} {end} size fit in_order = record { told = outcome_small both go; room = size }
-    where
-      go : m < 256 → (d : List (List ℕ)) → (ps : List (List ℕ)) × (p : List ℕ) × (d ≡ behind_all ps p) × Kept classes out fits count used ps × Slot symbols path p
-          → Kept classes after v (count + 1) end d
-      go small d (ps, p, e, k, s) =
-          subst (λ (l : List (List ℕ)). Kept classes after v (count + 1) end l) (sym e)
-          (record {
-            counted = ap (λ (n : ℕ). n + 1) k.counted ∙ sym (counts ps p);
-            fit = fit small ps p k s ∙ sym (every_more (good_key_path classes 8) ps p);
-            bytes = every_more is_bytes ps p ∙ ap₂ ◌&&◌ k.bytes (bytes_are p s.bytes);
-            stands = λ good few. subst (λ (l : List (List ℕ)). SetIn after (count + 1) end l) (sym (order_more [] ps p)) (in_order small ps p k s good few).0;
-            short = λ good few. (in_order small ps p k s good few).1;
-          })
-        where
-          counts : (ps : List (List ℕ)) (p : List ℕ) → length (behind_all ps p) ≡ length ps + 1
-          counts ps p = unfold behind_all in length-append ps (p ∷ [])
+module _ {labels : List Label} {classes out : List ℕ} {done : List (List ℕ)} {r : Result SetRead TextError} (holds : SetHolds labels classes done out r)
+    {text : List ℕ} {read : Result PathRead TextError} (told : PathTold labels text read) where
+  together : Outcome (every_one read_path (behind_all done text)) (every_one (every_one (symbol_of labels))) (both r read) (Made behind_all (Gathered classes out) PathHolds)
+  together = outcome_more read_path (every_one (symbol_of labels)) done text holds.told told.told
 
   -- 17 or 18 comes
-  pub add_high : 256 ≤ m → SetHolds labels classes (behind_all done text) out m false (count + 1) 0
-  add_high h = grows holds.room (λ small. absurd (omega arith)) (λ small. absurd (omega arith))
+  pub add_error : (e : TextError) → both r read ≡ Err e → SetHolds labels classes (behind_all done text) out (Err e)
+  add_error e is =
+      record {
+        told = outcome_map (λ v. v.0) (λ v ps w k. cc) (sym (ap (on_ok (λ v. v.0)) is)) together;
+        room = holds.room;
+      }
 
-  -- 4 came before
-  pub add_unfit : not fits ≡ true → SetHolds labels classes (behind_all done text) out m false (count + 1) 0
-  add_unfit q =
-      grows holds.room (λ small ps p k s. ap (λ (b : Bool). b && good_key_path classes 8 p) (sym (not-true _ q) ∙ k.fit)) (λ small ps p k s e. false_true e)
+  module _ {set : SetRead} {path : PathRead} (is : both r read ≡ Ok (set, path)) where
+    -- what the set says with the path
+    grows : {after : List ℕ} {used : library.Option ℕ} → length after ≡ 36
+        → ((ps : List (List ℕ)) (p : List ℕ) → Gathered classes out set ps → PathHolds path p → is_some used ≡ (every (good_key_path classes 8) ps && good_key_path classes 8 p))
+        → ((ps : List (List ℕ)) (p : List ℕ) → Gathered classes out set ps → PathHolds path p → is_some used ≡ true → set.count + 1 ≤ 4
+        → SetIn after (set.count + 1) (unwrap_or used 0) (put_path p (in_record_order [] ps)) × (unwrap_or used 0 ≤ 9 * (set.count + 1)))
+        → SetHolds labels classes (behind_all done text) after (Ok (record { count = set.count + 1; used = used }))
+    unfolding Made
+    grows {after} {used} size fit in_order =
+        record { told = outcome_map (λ v. record { count = set.count + 1; used = used }) go (sym (ap (on_ok (λ v. record { count = set.count + 1; used = used })) is)) together; room = size }
+      where
+        go : (v : SetRead × PathRead) (d : List (List ℕ)) → both r read ≡ Ok v
+            → (ps : List (List ℕ)) × (p : List ℕ) × (d ≡ behind_all ps p) × Gathered classes out v.0 ps × PathHolds v.1 p
+            → Gathered classes after (record { count = set.count + 1; used = used }) d
+        go v d w (ps, p, e, k, s) =
+            let same-set : v ≡ (set, path) = cc in
+            at ps p e (subst (λ (x : SetRead × PathRead). Gathered classes out x.0 ps) same-set k) (subst (λ (x : SetRead × PathRead). PathHolds x.1 p) same-set s)
+          where
+            counts : (ps : List (List ℕ)) (p : List ℕ) → length (behind_all ps p) ≡ length ps + 1
+            counts ps p = unfold behind_all in length-append ps (p ∷ [])
 
-  module _ (good : not fits ≡ false) where
-    so_far : (ps : List (List ℕ)) → Kept classes out fits count used ps → every (good_key_path classes 8) ps ≡ true
-    so_far ps k = sym k.fit ∙ not-false _ good
+            at : (ps : List (List ℕ)) (p : List ℕ) → d ≡ behind_all ps p → Gathered classes out set ps → PathHolds path p
+                → Gathered classes after (record { count = set.count + 1; used = used }) d
+            at ps p e k s =
+                subst (λ (l : List (List ℕ)). Gathered classes after (record { count = set.count + 1; used = used }) l) (sym e)
+                (record {
+                  counted = ap (λ (n : ℕ). n + 1) k.counted ∙ sym (counts ps p);
+                  fit = fit ps p k s ∙ sym (every_more (good_key_path classes 8) ps p);
+                  bytes = every_more is_bytes ps p ∙ ap₂ ◌&&◌ k.bytes (bytes_are p s.slot.bytes);
+                  stands = λ good few. subst (λ (l : List (List ℕ)). SetIn after (set.count + 1) (unwrap_or used 0) l) (sym (order_more [] ps p)) (in_order ps p k s good few).0;
+                  short = λ good few. (in_order ps p k s good few).1;
+                })
 
-    pub add_long : 8 < symbols → SetHolds labels classes (behind_all done text) out m false (count + 1) 0
-    add_long h =
-        grows holds.room
-        (λ small ps p k s. sym (ap₂ ◌&&◌ (so_far ps k) (long_path classes p (omega (arith, s.counted)))))
-        (λ small ps p k s e. false_true e)
+    -- a path does not pass 4, so there are no bytes
+    unfit : ((ps : List (List ℕ)) (p : List ℕ) → Gathered classes out set ps → PathHolds path p → (every (good_key_path classes 8) ps && good_key_path classes 8 p) ≡ false)
+        → SetHolds labels classes (behind_all done text) out (Ok (record { count = set.count + 1; used = library.None }))
+    unfit fails = grows holds.room (λ ps p k s. sym (fails ps p k s)) (λ ps p k s e. false_true e)
 
-    module _ (fewer : symbols ≤ 8) {g : Bool} (its : g ≡ good_key_path classes 8 (take (symbols + 1 - 1) (drop 1 path))) where
-      its_good : (p : List ℕ) → Slot symbols path p → {v : Bool} → g ≡ v → good_key_path classes 8 p ≡ v
-      its_good p s q = sym (ap (good_key_path classes 8) (slot_symbols s fewer)) ∙ (sym its ∙ q)
+    -- 4 came before
+    pub add_unfit : set.used ≡ library.None → SetHolds labels classes (behind_all done text) out (Ok (record { count = set.count + 1; used = library.None }))
+    add_unfit e =
+        unfit (λ ps p k s. ap (λ (b : Bool). b && good_key_path classes 8 p) (sym (sym (ap (λ (o : library.Option ℕ). is_some o) e) ∙ k.fit)))
 
-      pub add_bad : not g ≡ true → SetHolds labels classes (behind_all done text) out m false (count + 1) 0
-      add_bad q =
-          grows holds.room
-          (λ small ps p k s. sym (ap₂ ◌&&◌ (so_far ps k) (its_good p s (not-true _ q))))
-          (λ small ps p k s e. false_true e)
+    module _ {used : ℕ} (so-far : set.used ≡ library.Some used) where
+      all_so_far : (ps : List (List ℕ)) → Gathered classes out set ps → every (good_key_path classes 8) ps ≡ true
+      all_so_far ps k = sym k.fit ∙ ap (λ (o : library.Option ℕ). is_some o) so-far
 
-      module _ (fine : not g ≡ false) where
-        all_good : (ps : List (List ℕ)) (p : List ℕ) → Kept classes out fits count used ps → Slot symbols path p
-            → true ≡ (every (good_key_path classes 8) ps && good_key_path classes 8 p)
-        all_good ps p k s = sym (ap₂ ◌&&◌ (so_far ps k) (its_good p s (not-false _ fine)))
+      used_is : unwrap_or set.used 0 ≡ used
+      used_is = ap (λ (o : library.Option ℕ). unwrap_or o 0) so-far
 
-        -- one path too many: 5 comes where 4 does not
-        pub add_over : 4 < count + 1 → SetHolds labels classes (behind_all done text) out m true (count + 1) 0
-        add_over h = grows holds.room (λ small ps p k s. all_good ps p k s) (λ small ps p k s e few. absurd (omega arith))
+      fits_so_far : is_some set.used ≡ true
+      fits_so_far = ap (λ (o : library.Option ℕ). is_some o) so-far
 
-        module _ (small : m < 256) (few : count + 1 ≤ 4) where
-          -- what putting it in asks
-          pub add_ready : InsertFits out count used (take (symbols + 1 - 1) (drop 1 path))
-          add_ready = go holds.told told.told
-            where
-              go : Outcome (every_one read_path done) (every_one (every_one (symbol_of labels))) highest (Kept classes out fits count used)
-                  → Outcome (read_path text) (every_one (symbol_of labels)) high (Slot symbols path)
-                  → InsertFits out count used (take (symbols + 1 - 1) (drop 1 path))
-              go (Outcomes.known a ps s e r k) (Outcomes.known a' p s' e' r' q) =
-                  let short = k.short (not-false _ good) (omega arith) in
-                  let size = ap length (slot_symbols q fewer) in
-                  record {
-                    few = omega arith;
-                    path_short = omega (arith, q.counted);
-                    small = omega arith;
-                    room = omega (arith, q.counted, holds.room);
-                    ends = (k.stands (not-false _ good) (omega arith)).ends;
-                  }
-              go (Outcomes.unknown a s e r) o = absurd (omega (arith, higher.first))
-              go (Outcomes.torn s e) o = absurd (omega (arith, higher.first))
-              go (Outcomes.known a ps s e r k) (Outcomes.unknown a' s' e' r') = absurd (omega (arith, higher.second))
-              go (Outcomes.known a ps s e r k) (Outcomes.torn s' e') = absurd (omega (arith, higher.second))
+      pub add_long : 8 < path.count → SetHolds labels classes (behind_all done text) out (Ok (record { count = set.count + 1; used = library.None }))
+      add_long h = unfit (λ ps p k s. ap₂ ◌&&◌ (all_so_far ps k) (long_path classes p (omega (arith, s.slot.counted))))
 
-          pub add_in : {after : List ℕ} {end : ℕ} → Inserted out count used (take (symbols + 1 - 1) (drop 1 path)) after end
-              → SetHolds labels classes (behind_all done text) after m true (count + 1) end
-          add_in {after} {end} i =
-              grows (i.kept ∙ holds.room) (λ small ps p k s. all_good ps p k s)
-              (λ small ps p k s e few. (
-                subst (λ (l : List (List ℕ)). SetIn after (count + 1) end l)
-                    (ap₂ put_path (slot_symbols s fewer) (k.stands (not-false _ good) (omega arith)).are) i.holds,
-                let short = k.short (not-false _ good) (omega arith) in
-                    let size = ap length (slot_symbols s fewer) in
-                    omega (arith, i.used_up, s.counted),
-              ))
+      module _ (fewer : path.count ≤ 8) {g : Bool} (its : g ≡ good_key_path classes 8 (symbols_in path)) where
+        its_good : (p : List ℕ) → PathHolds path p → {v : Bool} → g ≡ v → good_key_path classes 8 p ≡ v
+        its_good p s q = sym (ap (good_key_path classes 8) (slot_symbols s.slot fewer)) ∙ (sym its ∙ q)
 
--- The loop stands at a place
-pub record Gathering (labels : List Label) (classes t out : List ℕ) (at highest : ℕ) (fits : Bool) (count used : ℕ) : Type 0 where
-  pub done : List (List ℕ)
-  pub split : texts t ≡ done ++ left_texts t at
-  pub holds : SetHolds labels classes done out highest fits count used
-  pub few : count ≤ at
-  pub within : at ≤ length t + 1
+        pub add_bad : not g ≡ true → SetHolds labels classes (behind_all done text) out (Ok (record { count = set.count + 1; used = library.None }))
+        add_bad q = unfit (λ ps p k s. ap₂ ◌&&◌ (all_so_far ps k) (its_good p s (not-true _ q)))
 
-no_paths : (labels : List Label) (classes out : List ℕ) → length out ≡ 36 → SetHolds labels classes [] out 0 true 0 0
+        module _ (fine : not g ≡ false) where
+          all_good : (ps : List (List ℕ)) (p : List ℕ) → Gathered classes out set ps → PathHolds path p
+              → true ≡ (every (good_key_path classes 8) ps && good_key_path classes 8 p)
+          all_good ps p k s = sym (ap₂ ◌&&◌ (all_so_far ps k) (its_good p s (not-false _ fine)))
+
+          -- one path too many: 5 comes where 4 does not
+          pub add_over : 4 < set.count + 1 → SetHolds labels classes (behind_all done text) out (Ok (record { count = set.count + 1; used = library.Some 0 }))
+          add_over h = grows holds.room all_good (λ ps p k s e few. absurd (omega arith))
+
+          module _ (few : set.count + 1 ≤ 4) where
+            -- what putting it in asks
+            pub add_ready : InsertFits out set.count used (symbols_in path)
+            unfolding Made
+            add_ready = go together
+              where
+                at : (ps : List (List ℕ)) (p : List ℕ) → Gathered classes out set ps → PathHolds path p
+                    → InsertFits out set.count used (symbols_in path)
+                at ps p k q =
+                    let short = k.short fits_so_far (omega arith) in
+                    let size = ap length (slot_symbols q.slot fewer) in
+                    record {
+                      few = omega arith;
+                      path_short = omega (arith, q.slot.counted);
+                      small = omega (arith, used_is);
+                      room = omega (arith, q.slot.counted, holds.room, used_is);
+                      ends = rw used_is at (k.stands fits_so_far (omega arith)).ends;
+                    }
+
+                go : Outcome (every_one read_path (behind_all done text)) (every_one (every_one (symbol_of labels))) (both r read) (Made behind_all (Gathered classes out) PathHolds)
+                    → InsertFits out set.count used (symbols_in path)
+                go (Outcomes.known a d v w s t (ps, p, e, k, q)) =
+                    let same-set : v ≡ (set, path) = cc in
+                    at ps p (subst (λ (x : SetRead × PathRead). Gathered classes out x.0 ps) same-set k) (subst (λ (x : SetRead × PathRead). PathHolds x.1 p) same-set q)
+                go (Outcomes.unknown a w s t) = cc
+                go (Outcomes.torn w s) = cc
+
+            pub add_in : {after : List ℕ} {end : ℕ} → Inserted out set.count used (symbols_in path) after end
+                → SetHolds labels classes (behind_all done text) after (Ok (record { count = set.count + 1; used = library.Some end }))
+            add_in {after} {end} i =
+                grows (i.kept ∙ holds.room) all_good
+                (λ ps p k s e few. (
+                  subst (λ (l : List (List ℕ)). SetIn after (set.count + 1) end l)
+                      (ap₂ put_path (slot_symbols s.slot fewer) (rw used_is at (k.stands fits_so_far (omega arith))).are) i.holds,
+                  let short = k.short fits_so_far (omega arith) in
+                      let size = ap length (slot_symbols s.slot fewer) in
+                      omega (arith, i.used_up, s.slot.counted, used_is),
+                ))
+
+pub no_paths : (labels : List Label) (classes out : List ℕ) → length out ≡ 36 → SetHolds labels classes [] out (Ok (record { count = 0; used = library.Some 0 }))
 unfolding every_one every in_record_order
 no_paths labels classes out size =
     record {
       told =
-          Outcomes.known [] [] (omega arith) refl refl
+          Outcomes.known [] [] _ refl refl refl
           (record {
             counted = refl;
             fit = refl;
@@ -213,43 +237,18 @@ no_paths labels classes out size =
       room = size;
     }
 
-pub gather_start : (labels : List Label) (classes t out : List ℕ) → length out ≡ 36 → Gathering labels classes t out 0 0 true 0 0
-gather_start labels classes t out size =
-    record { done = []; split = sym (texts_start t); holds = no_paths labels classes out size; few = omega arith; within = omega arith }
-
-module _ {labels : List Label} {classes t out : List ℕ} {at highest : ℕ} {fits : Bool} {count used : ℕ} (g : Gathering labels classes t out at highest fits count used)
-    (h : at ≤ length t) {end : ℕ} (n : Next t at 44 end) where
-  pub gather_next : {text : List ℕ} → text ≡ text_at at (take (end - at) (drop at t)) → {after : List ℕ} {m : ℕ} {v : Bool} {many last : ℕ} → many ≡ count + 1
-      → ((done : List (List ℕ)) → SetHolds labels classes done out highest fits count used → SetHolds labels classes (behind_all done text) after m v many last)
-      → Gathering labels classes t after (end + 1) m v many last
-  unfolding behind_all
-  gather_next {text} e c added =
-      record {
-        done = g.done ++ (text ∷ []);
-        split =
-            g.split
-            ∙ (ap (λ (l : List (List ℕ)). g.done ++ l) (texts_step t at h n ∙ ap (λ (x : List ℕ). x ∷ left_texts t (end + 1)) (sym e))
-            ∙ sym (append_assoc g.done (text ∷ []) (left_texts t (end + 1))));
-        holds = added g.done g.holds;
-        few = omega (arith, g.few, n.low);
-        within = omega (arith, n.high);
-      }
-
 -- no text at all: `{}`
-pub set_none : (labels : List Label) (classes t out : List ℕ) → length out ≡ 36 → length t ≡ 0 → SetTold labels classes t out 0 true 0 0
+pub set_none : (labels : List Label) (classes t out : List ℕ) → length out ≡ 36 → length t ≡ 0 → SetTold labels classes t out (Ok (record { count = 0; used = library.Some 0 }))
 set_none labels classes t out size e = go t e
   where
     nothing : every_one read_path [] ≡ read_set []
     nothing = unfold every_one read_set in refl
 
-    go : (t : List ℕ) → length t ≡ 0 → SetTold labels classes t out 0 true 0 0
+    go : (t : List ℕ) → length t ≡ 0 → SetTold labels classes t out (Ok (record { count = 0; used = library.Some 0 }))
     go [] e = record { told = outcome_read nothing (no_paths labels classes out size).told; room = size }
     go (b ∷ t) e = absurd (omega arith)
 
-pub set_read : {labels : List Label} {classes t out : List ℕ} {at highest : ℕ} {fits : Bool} {count used : ℕ} → (length t ≡ 0 → ⊥)
-    → Gathering labels classes t out at highest fits count used → length t < at → SetTold labels classes t out highest fits count used
-set_read {t = t} {at = at} some-text g h =
-    record { told = outcome_read (ap (every_one read_path) all ∙ sym (read_set_texts t some-text)) g.holds.told; room = g.holds.room }
-  where
-    all : g.done ≡ texts t
-    all = sym (g.split ∙ (ap (λ (l : List (List ℕ)). g.done ++ l) (texts_end t at h) ∙ append-nil g.done))
+pub set_read : {labels : List Label} {classes t out : List ℕ} {done : List (List ℕ)} {r : Result SetRead TextError} → (length t ≡ 0 → ⊥)
+    → SetHolds labels classes done out r → done ≡ texts t → SetTold labels classes t out r
+set_read {t = t} some-text g all =
+    record { told = outcome_read (ap (every_one read_path) all ∙ sym (read_set_texts t some-text)) g.told; room = g.room }

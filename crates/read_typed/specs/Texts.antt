@@ -1,21 +1,20 @@
 -- The texts of a set's paths: pieces between commas, each but the first behind "exactly one space after each comma".
-use Rattle.std.specs.Prelude.{ℕ, zero, suc, ◌+◌, ◌-◌, ◌<◌, ◌≤◌, ◌≡◌, Bool, length, get_or, drop}
-use Rattle.std.proofs.Math.Path.{refl, sym, ap}
-use Rattle.std.proofs.Common.{ap₂, ◌∙◌, arith, add-one, eqb-true, eq-eqb, ne_eqb}
-use Rattle.std.proofs.Math.Bool.{true, false, cond}
-use mathlib.Core.List.{List, [], ◌∷◌, map, cons≢nil}
+use Rattle.std.specs.Prelude as library
+use Rattle.std.specs.Prelude.{ℕ, zero, suc, ◌+◌, ◌<◌, ◌≤◌, ◌≡◌, refl, Bool, true, false, ◌&&◌, ◌==◌, cond, eqb, List, [], ◌∷◌, length, map, unwrap_or}
+use Rattle.std.specs.List.{onto_first, enumerate_from}
+use Rattle.std.specs.Option.{MatchOption}
+use Rattle.std.proofs.Common.{sym, ap, ap₂, ◌∙◌, arith, add-one, eqb-true}
+use Rattle.std.proofs.lemmas.Bool.{false≢true}
 use Rattle.std.proofs.Math.Option.{Option, none, some}
-use Rattle.std.proofs.Math.Nat.{sub-zero}
-use Rattle.std.proofs.Math.Dec.{eqb}
-use Rattle.std.proofs.Math.ListN.{take}
+use mathlib.Core.List.{cons≢nil}
+use denote.Ref.{Bor}
 use Rattle.meaning.specs.Lists.{same}
 use Rattle.meaning.specs.Records.{and_then}
 use Rattle.meaning.specs.Text.{Typed, every_one}
-use Rattle.read_record.specs.Scans.{drop_step}
 use Rattle.theory_text.specs.Reading.{up_to, from_the, named_of, read_symbol, read_symbols, read_path, rest_of_set, read_paths, read_set}
 use Rattle.theory_text.specs.Pieces.{from_length}
-use Rattle.read_text.specs.Seeking.{Next}
-use Rattle.read_symbols.specs.Splitting.{on_first, pieces, other_pieces, pieces_first, left_at, left_start, left_end, left_step}
+use Rattle.read_text.specs.Cutting.{Missing, Stripped}
+use Rattle.read_symbols.specs.Splitting.{pieces, other_pieces, pieces_first}
 
 -- behind the space; nothing where there is none, which is no path's text
 unfoldable pub behind_space : List ℕ → List ℕ
@@ -31,38 +30,8 @@ texts_of zero [] = []
 texts_of zero (p ∷ ps) = p ∷ map behind_space ps
 texts_of (suc at) ps = map behind_space ps
 
--- the texts from a place on
-unfoldable pub left_texts : List ℕ → ℕ → List (List ℕ)
-left_texts t at = texts_of at (left_at 44 t at)
-
 unfoldable pub texts : List ℕ → List (List ℕ)
 texts t = texts_of 0 (pieces 44 t)
-
-pub texts_start : (t : List ℕ) → left_texts t 0 ≡ texts t
-unfolding left_texts texts
-texts_start t = ap (texts_of 0) (left_start 44 t)
-
-pub texts_end : (t : List ℕ) (at : ℕ) → length t < at → left_texts t at ≡ []
-unfolding left_texts
-texts_end t at h = ap (texts_of at) (left_end 44 t at h) ∙ go at
-  where
-    go : (at : ℕ) → texts_of at [] ≡ []
-    go zero = unfold texts_of in refl
-    go (suc at) = unfold texts_of in refl
-
-pub texts_step : (t : List ℕ) (at : ℕ) → at ≤ length t → {end : ℕ} → Next t at 44 end
-    → left_texts t at ≡ text_at at (take (end - at) (drop at t)) ∷ left_texts t (end + 1)
-unfolding left_texts
-texts_step t at h {end} n =
-    ap (texts_of at) (left_step 44 t at h n) ∙ (go at (take (end - at) (drop at t)) (left_at 44 t (end + 1)) ∙ ap (λ (l : List (List ℕ)). text_at at (take (end - at) (drop at t)) ∷ l) later)
-  where
-    go : (at : ℕ) (p : List ℕ) (ps : List (List ℕ)) → texts_of at (p ∷ ps) ≡ text_at at p ∷ map behind_space ps
-    go zero p ps = unfold texts_of text_at in refl
-    go (suc at) p ps = unfold texts_of text_at in refl
-
-    later : map behind_space (left_at 44 t (end + 1)) ≡ texts_of (end + 1) (left_at 44 t (end + 1))
-    later =
-        sym (ap (λ (k : ℕ). texts_of k (left_at 44 t (end + 1))) (add-one end) ∙ (unfold texts_of in refl))
 
 -- nothing is no path's text
 no_path : read_path [] ≡ none
@@ -83,12 +52,12 @@ first_torn b r e = ap (λ (l : List (List ℕ)). every_one read_path (map behind
 
 spaced : (b : ℕ) (r : List ℕ) → b ≡ 32 → map behind_space (pieces 44 (b ∷ r)) ≡ texts_of 0 (pieces 44 r)
 spaced b r e =
-    let first : pieces 44 (32 ∷ r) ≡ on_first 32 (pieces 44 r) = unfold pieces in refl in
+    let first : pieces 44 (32 ∷ r) ≡ onto_first 32 (pieces 44 r) = unfold pieces in refl in
     ap (λ (x : ℕ). map behind_space (pieces 44 (x ∷ r))) e ∙ (ap (map behind_space) first ∙ go (pieces 44 r) (pieces_first 44 r))
   where
-    go : (ps : List (List ℕ)) {p : List ℕ} {qs : List (List ℕ)} → ps ≡ p ∷ qs → map behind_space (on_first 32 ps) ≡ texts_of 0 ps
+    go : (ps : List (List ℕ)) {p : List ℕ} {qs : List (List ℕ)} → ps ≡ p ∷ qs → map behind_space (onto_first 32 ps) ≡ texts_of 0 ps
     go [] q = absurd (cons≢nil (sym q))
-    go (p ∷ ps) q = unfold on_first behind_space texts_of in refl
+    go (p ∷ ps) q = unfold behind_space texts_of in refl
 
 -- the reader of paths reads each text
 pub read_texts : (fuel : ℕ) (t : List ℕ) → length t < fuel → read_paths fuel t ≡ every_one read_path (texts t)
@@ -122,38 +91,44 @@ read_set_texts (b ∷ t) h =
     let is : read_set (b ∷ t) ≡ read_paths (suc (length (b ∷ t))) (b ∷ t) = unfold read_set in refl in
     is ∙ read_texts (suc (length (b ∷ t))) (b ∷ t) (omega arith)
 
+and_true : (c d : Bool) → (c && true) ≡ d → c ≡ d
+and_true true d e = e
+and_true false d e = e
+
 -- a path's text, return by return
-module _ (t : List ℕ) (at end : ℕ) (low : at ≤ end) (high : end ≤ length t) where
-  pub text_first : at ≡ 0 → take end t ≡ text_at at (take (end - at) (drop at t))
-  unfolding text_at
-  text_first e = rw (e, sub-zero end)
+pub text_first : (place : ℕ) (piece : List ℕ) → place ≡ 0 → piece ≡ text_at place piece
+unfolding text_at
+text_first place piece e = rw e refl
 
-  behind : (at ≡ 0 → ⊥) → behind_space (take (end - at) (drop at t)) ≡ text_at at (take (end - at) (drop at t))
-  behind h = go at h (take (end - at) (drop at t))
-    where
-      go : (at : ℕ) → (at ≡ 0 → ⊥) → (l : List ℕ) → behind_space l ≡ text_at at l
-      go zero h l = absurd (h refl)
-      go (suc at) h l = unfold text_at in refl
+pub text_behind : (place : ℕ) (piece : List ℕ) → (place ≡ 0 → ⊥) → (r : library.Option (Bor (List ℕ)))
+    → MatchOption r (Missing (32 ∷ []) piece) (λ x. Stripped (32 ∷ []) piece x.now) → (other : Bor (List ℕ)) → other.now ≡ []
+    → (unwrap_or r other).now ≡ text_at place piece
+unfolding text_at behind_space
+text_behind zero piece h r m other z = absurd (h refl)
+text_behind (suc place) piece h r m other z = at r piece m
+  where
+    at : (r : library.Option (Bor (List ℕ))) (piece : List ℕ) → MatchOption r (Missing (32 ∷ []) piece) (λ x. Stripped (32 ∷ []) piece x.now)
+        → (unwrap_or r other).now ≡ behind_space piece
+    at library.None [] m = z
+    at library.None (b ∷ l) m = rw (and_true (b == 32) false m) z
+    at (library.Some x) [] m = absurd (false≢true m.0)
+    at (library.Some x) (b ∷ l) m = rw (and_true (b == 32) true m.0) m.1
 
-  pub text_none : (at ≡ 0 → ⊥) → at ≡ end → take (end - at) (drop at t) ≡ text_at at (take (end - at) (drop at t))
-  text_none h e =
-      let z : end - at ≡ 0 = omega arith in
-      let none_left : take (end - at) (drop at t) ≡ [] = ap (λ (n : ℕ). take n (drop at t)) z in
-      let empty : behind_space [] ≡ [] = unfold behind_space in refl in
-      none_left ∙ (sym empty ∙ (ap behind_space (sym none_left) ∙ behind h))
+-- the texts of the pieces, each with its number
+pub texts_by : (ps : List (List ℕ)) → map (λ p. text_at p.0 p.1) (enumerate_from 0 ps) ≡ texts_of 0 ps
+unfolding texts_of text_at
+texts_by [] = refl
+texts_by (p ∷ ps) = ap (λ (l : List (List ℕ)). p ∷ l) (others 0 ps)
+  where
+    others : (n : ℕ) (ps : List (List ℕ)) → map (λ p. text_at p.0 p.1) (enumerate_from (n + 1) ps) ≡ map behind_space ps
+    others n [] = refl
+    others n (p ∷ ps) = ap₂ ◌∷◌ (rw add-one refl) (others (n + 1) ps)
 
-  cut_first : (at ≡ end → ⊥) → take (end - at) (drop at t) ≡ get_or t at 0 ∷ take (end - (at + 1)) (drop (at + 1) t)
-  cut_first n =
-      let more : end - at ≡ suc (end - (at + 1)) = omega arith in
-      ap₂ {C = List ℕ} (λ (k : ℕ) (l : List ℕ). take k l) more (drop_step 0 t at (omega arith))
-
-  pub text_space : (at ≡ 0 → ⊥) → (at ≡ end → ⊥) → get_or t at 0 ≡ 32 → take (end - (at + 1)) (drop (at + 1) t) ≡ text_at at (take (end - at) (drop at t))
-  text_space h n e =
-      let spaced-text : behind_space (get_or t at 0 ∷ take (end - (at + 1)) (drop (at + 1) t)) ≡ take (end - (at + 1)) (drop (at + 1) t) = unfold behind_space in rw (eq-eqb (get_or t at 0) 32 e) in
-      sym spaced-text ∙ (ap behind_space (sym (cut_first n)) ∙ behind h)
-
-  pub text_torn : (at ≡ 0 → ⊥) → (at ≡ end → ⊥) → (get_or t at 0 ≡ 32 → ⊥) → take (at - at) (drop at t) ≡ text_at at (take (end - at) (drop at t))
-  text_torn h n e =
-      let z : at - at ≡ 0 = omega arith in
-      let torn-text : behind_space (get_or t at 0 ∷ take (end - (at + 1)) (drop (at + 1) t)) ≡ [] = unfold behind_space in rw (ne_eqb (get_or t at 0) 32 e) in
-      ap (λ (k : ℕ). take k (drop at t)) z ∙ (sym torn-text ∙ (ap behind_space (sym (cut_first n)) ∙ behind h))
+pub texts_all : (t : List ℕ) (xs : List (ℕ × Bor (List ℕ))) → map (λ p. (p.0, p.1.now)) xs ≡ enumerate_from 0 (pieces 44 t)
+    → map (λ p. text_at p.0 p.1.now) xs ≡ texts t
+unfolding texts
+texts_all t xs e = sym (parts xs) ∙ (ap (map (λ p. text_at p.0 p.1)) e ∙ texts_by (pieces 44 t))
+  where
+    parts : (xs : List (ℕ × Bor (List ℕ))) → map (λ p. text_at p.0 p.1) (map {B = ℕ × List ℕ} (λ p. (p.0, p.1.now)) xs) ≡ map (λ p. text_at p.0 p.1.now) xs
+    parts [] = refl
+    parts (x ∷ xs) = ap (λ (l : List (List ℕ)). text_at x.0 x.1.now ∷ l) (parts xs)

@@ -1,4 +1,4 @@
-// A line as a typed key (02, request 1): the paths of its set, put into record order as they come, then all of its parts.
+// The set of a typed key: its paths, put into record order as they come.
 #![tactic(auto)]
 
 pub mod set;

@@ -1,8 +1,11 @@
 -- The place behind a record, and stepping from record to record: a law for each return of the code.
 use Prim.Native.Nat.{ℕ, zero, suc, ◌+◌, ◌-◌, ◌<◌, ◌≤◌, min}
-use Rattle.std.specs.Prelude.{◌≡◌, refl, List, [], ◌∷◌, length, get_or, take, drop}
+use Rattle.std.specs.Prelude.{◌≡◌, refl, List, [], ◌∷◌, length, get_or, take, drop, Option, None, Some, Bool, true, false, not}
+use Rattle.std.specs.Option.{MatchOption, is_some}
+use denote.Ref.{Bor}
 use Rattle.std.proofs.Math.Path.{sym}
 use Rattle.std.proofs.Common.{ap, ◌∙◌, sub-one, drop-drop}
+use Rattle.std.proofs.lemmas.Bool.{false≢true}
 use Rattle.std.proofs.Math.Nat.{zero-min, suc-min-suc}
 use native.Mathlib.Omega.{arith}
 use Rattle.std.proofs.Math.ListN.{length-drop}
@@ -29,6 +32,11 @@ length_two l h = h
 -- The place behind the record that stands at a place of an input: so many bytes further as its length says, and at most at the end
 unfoldable pub place_after : List ℕ → ℕ → ℕ
 place_after s at = at + min (record_length (drop at s)) (length (drop at s))
+
+-- One record is passed, or none where the place does not move
+abbrev pub Passes : List ℕ → ℕ → Option (Bor (List ℕ)) → ℕ → Type 0
+Passes s at r after =
+    (after ≡ place_after s at) × MatchOption r (after ≡ at) (λ x. (at < after) × (x.now ≡ take (after - at) (drop at s)))
 
 -- No more is passed by a length that says more than there is
 drop_at_most : (n : ℕ) (l : List ℕ) → drop (min n (length l)) l ≡ drop n l
@@ -57,6 +65,11 @@ module _ (s : List ℕ) (at : ℕ) where
   unfolding place_after
   after_within h = omega (arith, length-drop at s)
 
+  -- a step that moves stays within the input
+  pub after_moves : {after : ℕ} → after ≡ place_after s at → (after ≡ at → ⊥) → (at < after) × (after ≤ length s)
+  unfolding place_after
+  after_moves e n = (omega (arith, length-drop at s), omega (arith, length-drop at s))
+
   after_drops : drop (place_after s at) s ≡ drop (record_length (drop at s)) (drop at s)
   unfolding place_after
   after_drops = sym (drop-drop _ at s) ∙ drop_at_most (record_length (drop at s)) (drop at s)
@@ -79,13 +92,22 @@ module _ {left at : ℕ} {input w : List ℕ} (s : Steps left at input w) where
   unfolding records_from
   steps_done h = let e : left ≡ 0 = omega arith in part_to_end input at ∙ (rw e at s.here)
 
-  module _ {after : ℕ} (a : after ≡ place_after input at) where
+  module _ {src : List ℕ} (same : src ≡ input) (r : Option (Bor (List ℕ))) {after : ℕ} (p : Passes src at r after) where
+    place : after ≡ place_after input at
+    place = rw same at p.0
+
     -- A step that does not move: no record passes it
-    pub steps_stay : after ≡ at → take (length input - at) (drop at input) ≡ w
-    steps_stay e =
-        part_to_end input at
-        ∙ stays left (drop at input) (sym (after_drops input at) ∙ ap (λ (k : ℕ). drop k input) (sym a ∙ e))
-        ∙ s.here
+    pub steps_stay : {none-left : Bool} → is_some r ≡ not none-left → none-left ≡ true → take (length input - after) (drop after input) ≡ w
+    steps_stay told t =
+        let e = stood r (told ∙ ap not t) p.1 in
+        part_to_end input after
+        ∙ (ap (λ (k : ℕ). drop k input) e
+        ∙ (stays left (drop at input) (sym (after_drops input at) ∙ ap (λ (k : ℕ). drop k input) (sym place ∙ e)) ∙ s.here))
+      where
+        stood : (r : Option (Bor (List ℕ))) → is_some r ≡ false
+            → MatchOption r (after ≡ at) (λ x. (at < after) × (x.now ≡ take (after - at) (drop at src))) → after ≡ at
+        stood None e m = m
+        stood (Some x) e m = absurd (false≢true (sym e))
 
     pub steps_next : 0 < left → Steps (left - 1) after input w
     unfolding records_from
@@ -93,4 +115,4 @@ module _ {left at : ℕ} {input w : List ℕ} (s : Steps left at input w) where
       where
         go : (m : ℕ) → 0 < m → records_from m (drop at input) ≡ w → Steps (m - 1) after input w
         go zero h t = absurd (omega arith)
-        go (suc m) h t = record { here = rw (a, after_drops input at, sub-one) t; within = rw a (after_within input at s.within) }
+        go (suc m) h t = record { here = rw (place, after_drops input at, sub-one) t; within = rw place (after_within input at s.within) }

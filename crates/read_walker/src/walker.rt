@@ -1,46 +1,56 @@
-// The record walker (document 01, "Every record: length of the whole record"): the input and a position in it. Its functions are thin: each
-// leaves the work to `step_from`, whose parameters are plain. Callers have `step`, and see no walker.
-ghost use Rattle.std.specs.Prelude.{◌≡◌};
-ghost use Rattle.read_walker.specs.Steps.{place_after};
+// The record walker: the input and a position in it. The place behind a record is the work of `step`.
+ghost use Rattle.std.specs.Prelude.{◌≡◌, ◌-◌, length};
+ghost use Rattle.std.specs.Iterator.{at_most};
+ghost use Rattle.read_walker.specs.Steps.{place_after, Passes};
 
 use crate::front_length;
 
-#[derive(Clone, Copy)]
-pub struct Walker<'a> {
-    pub src: &'a [u8],
-    pub at: usize,
-}
-
-// The work: the place behind the record that stands at a place. It is the same place where nothing is left or the length is 0, and the end where
-// the length says more than there is.
-pub fn step_from(s: &[u8], at: usize) -> usize
-    ensures { result ≡ place_after s.now at }
+// The place behind the record that stands at a place. It is the same place where nothing is left or the length is 0, and the end where the
+// length says more than there is.
+#[tactic(auto, using(crate::specs::Steps::after_end, crate::specs::Steps::after_past, crate::specs::Steps::after_next))]
+pub fn step(input: &[u8], at: usize) -> usize
+    ensures { result ≡ place_after input.now at }
 {
-    if s.len() <= at {
+    if input.len() <= at {
         return at;
     }
-    let whole = front_length(&s[at..]);
-    if s.len() - at < whole {
-        return s.len();
+    let whole = front_length(&input[at..]);
+    if input.len() - at < whole {
+        return input.len();
     }
     at + whole
 }
 
-pub fn new<'a>(src: &'a [u8], at: usize) -> Walker<'a>
-    ensures { (result.src ≡ src.entry) × (result.at ≡ at) }
-{
-    Walker { src, at }
+// The records of an input from a place on, up to one that does not move the place.
+#[derive(Clone, Copy, Debug, PartialEq, Eq)]
+pub struct Records<'a> {
+    pub src: &'a [u8],
+    pub at: usize,
 }
 
-pub fn next<'a>(w: Walker<'a>) -> usize
-    ensures { result ≡ place_after w.entry.src.now w.entry.at }
-{
-    step_from(w.src, w.at)
+impl<'a> Records<'a> {
+    pub fn new(src: &'a [u8], at: usize) -> Records<'a>
+        ensures { (result.src ≡ src.entry) × (result.at ≡ at) }
+    {
+        Records { src, at }
+    }
 }
 
-// One step of the walker from a place of an input.
-pub fn step(input: &[u8], at: usize) -> usize
-    ensures { result ≡ place_after input.now at }
-{
-    next(new(input, at))
+impl<'a> Iterator for Records<'a> {
+    type Item = &'a [u8];
+
+    ghost remaining = { λ s. at_most (length s.src.now - s.at) };
+
+    ghost next_gives = { λ s r t. (t.src ≡ s.src) × Passes s.src.now s.at r t.at };
+
+    #[tactic(auto, using(crate::specs::Steps::after_moves))]
+    fn next(&mut self) -> Option<&'a [u8]> {
+        let after = step(self.src, self.at);
+        if after == self.at {
+            return None;
+        }
+        let record = &self.src[self.at..after];
+        self.at = after;
+        Some(record)
+    }
 }

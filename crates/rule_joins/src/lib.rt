@@ -1,5 +1,4 @@
-// What the rules of inference ask of paths beside words (document 01, "Rules of inference"): a beginning, and joins,
-// which are tested against a path that is there and never built.
+// What the rules of inference ask of paths beside words ("Rules of inference"): joins, which are tested against a path that is there and never built.
 #![tactic(auto)]
 
 ghost use Rattle.std.specs.Prelude.{◌≡◌, ◌++◌};
@@ -9,26 +8,11 @@ ghost use Rattle.rule_joins.specs.Forms.{is_beginning, is_doubled};
 ghost use Rattle.rule_joins.specs.Joins.{BothNormal, Overlap};
 
 use path_words::ANY_PATH;
-use read_record::names::same_bytes;
-
-// p begins with s.
-pub fn begins(s: &[u8], p: &[u8]) -> bool
-    ensures { result ≡ is_beginning s.now p.now }
-{
-    let n = s.len();
-    if p.len() < n {
-        return false;
-    }
-    same_bytes(s, &p[..n])
-}
 
 fn doubled(s: u8, t: u8) -> bool
     ensures { result ≡ is_doubled s t }
 {
-    if s != ANY_PATH {
-        return false;
-    }
-    t == ANY_PATH
+    s == ANY_PATH && t == ANY_PATH
 }
 
 // How many symbols of y their join leaves out: the any-path that ends x and begins y stands there once.
@@ -36,30 +20,17 @@ fn overlap(x: &[u8], y: &[u8]) -> usize
     requires { BothNormal x.now y.now }
     ensures { Overlap x.now y.now result }
 {
-    if x.len() == 0 {
+    if x.len() == 0 || y.len() == 0 {
         return 0;
     }
-    if y.len() == 0 {
-        return 0;
-    }
-    if doubled(x[x.len() - 1], y[0]) {
-        return 1;
-    }
-    0
+    if doubled(x[x.len() - 1], y[0]) { 1 } else { 0 }
 }
 
 // The path is the front and then the back.
 pub fn is_both(path: &[u8], front: &[u8], back: &[u8]) -> bool
     ensures { result ≡ is_same path.now (front.now ++ back.now) }
 {
-    let n = front.len();
-    if path.len() < n {
-        return false;
-    }
-    if !same_bytes(&path[..n], front) {
-        return false;
-    }
-    same_bytes(&path[n..], back)
+    path.starts_with(front) && &path[front.len()..] == back
 }
 
 // The join of x and y, both in normal form, is t.

@@ -1,6 +1,8 @@
 -- A whole proof from the front: what holds after n lines, and what each answer says.
 use Prim.Native.Nat.{ℕ, zero, suc, ◌+◌, ◌-◌, ◌<◌, ◌≤◌}
-use Rattle.std.specs.Prelude.{◌≡◌, ◌⊎◌, Bool, true, false, ◌&&◌, not, eqb, get_or, take}
+use Rattle.std.specs.Prelude.{◌≡◌, ◌⊎◌, Bool, true, false, ◌&&◌, eqb, get_or, take, ◌==◌, Result, Ok, Err}
+use Rattle.std.specs.Cmp.Lexicographic.{pointwise}
+use Rattle.read_record.specs.Library.{same_list}
 use Rattle.std.proofs.Math.Path.{refl, sym, ap, ap₂, subst}
 use Rattle.std.proofs.Common.{◌∙◌, inl, inr, add-one, arith, eq-or-lt_of_le, le_of_suc-le-suc}
 use Rattle.std.proofs.Math.Bool.{cond}
@@ -35,17 +37,18 @@ use Rattle.read_record.specs.Tables.{bytes_key}
 use Rattle.read_entry.specs.Keys.{line_tests_by}
 use Rattle.read_entry.specs.Agree.{line_agrees}
 use Rattle.read_inputs.specs.Accepted.{Given}
-use Rattle.read_judged.specs.declared.Judged.{Judged}
-use Rattle.read_judged.specs.declared.Judged.TheVariants.{Sound, Refused}
+use Rattle.read_judged.specs.declared.Fault.{Fault}
+use Rattle.read_judged.specs.declared.RefusalKind.TheVariants.{Unfollowed, OtherEnd}
+use Rattle.read_judged.specs.Answers.{number_of}
 use Rattle.rule_tests.specs.SetBytes.{line_key}
 use Rattle.rule_premises.specs.Premises.{lines_from, LineRecord, Earlier, LineBody, line_at, line_none}
 use Rattle.rule_premises.specs.ProofLines.{lines_more}
 use Rattle.rule_lines.specs.Following.{still_below, new_did_follow, below_more, told_follows, told_not}
 
 -- "Where an answer is an enum, a definition gives this paper's number and values for each case of the enum": a proof is input 3
-unfoldable pub checked_answer : Judged → Answer
-checked_answer Sound = plain accepted
-checked_answer (Refused number place) = refused_by (record { number = number; input = 3; place = place }) []
+unfoldable pub checked_answer : Result Unit Fault → Answer
+checked_answer (Ok _) = plain accepted
+checked_answer (Err fault) = refused_by (record { number = number_of fault.kind; input = 3; place = fault.place }) []
 
 pub given_labels : {profile : List ℕ} {second : Bool} {before keys : ℕ} {question classes : List ℕ} → Given profile second before keys question classes → GoodLabels (labels_in profile)
 given_labels {profile} g = accepted_labels profile g.accepted_profile
@@ -136,6 +139,11 @@ pub record LineJudged (single : ℕ → Bool) (labels : List Label) (keys : List
   pub is_line : 0 < length rest
   pub told : number ≡ first_of (line_tests_by classes n rest)
 
+pub line_judged : {single : ℕ → Bool} {labels : List Label} {keys : List Key} {proof classes : List ℕ} {n : ℕ} {rest : List ℕ} {number : ℕ}
+    → Sofar single labels keys proof n rest → Tabled labels classes → 0 < length rest → number ≡ first_of (line_tests_by classes n rest)
+    → LineJudged single labels keys proof classes n rest number
+line_judged s t h e = record { sofar = s; tabled = t; is_line = h; told = e }
+
 module _ {single : ℕ → Bool} {labels : List Label} {keys : List Key} {proof classes : List ℕ} {n : ℕ} {rest : List ℕ} {number : ℕ}
     (read : LineJudged single labels keys proof classes n rest number) where
   s : Sofar single labels keys proof n rest
@@ -144,8 +152,8 @@ module _ {single : ℕ → Bool} {labels : List Label} {keys : List Key} {proof 
   judged : number ≡ first_of (line_tests labels (lines_from n proof) rest)
   judged = read.told ∙ line_agrees read.tabled rest s.small n (lines_from n proof) s.lines.counted
 
-  pub sofar_refused : (question : Key) → (number ≡ 0 → ⊥) → ProofJudged single labels keys question (proof_walked labels proof) (checked_answer (Refused number n))
-  unfolding checked_answer
+  pub sofar_refused : (question : Key) → (number ≡ 0 → ⊥)
+      → ProofJudged single labels keys question (proof_walked labels proof) (refused_by (record { number = number; input = 3; place = n }) [])
   sofar_refused question ne = go number refl
     where
       go : (m : ℕ) → number ≡ m → ProofJudged single labels keys question (proof_walked labels proof) (refused_by (record { number = number; input = 3; place = n }) [])
@@ -210,7 +218,7 @@ module _ {single : ℕ → Bool} {labels : List Label} {keys : List Key} {proof 
             (follows_test keys (line_keys (lines_from n proof)) (read_line (record_body rest))))
             (one_agrees code single agree (read_line (record_body rest)).key.target small_target)
 
-        pub sofar_next : not r ≡ false → {next : List ℕ} → next ≡ take (length rest - stop) (drop stop rest) → Sofar single labels keys proof (n + 1) next
+        pub sofar_next : r ≡ true → {next : List ℕ} → next ≡ take (length rest - stop) (drop stop rest) → Sofar single labels keys proof (n + 1) next
         unfolding record_length
         sofar_next t {next} q =
             let at : drop (record_length rest) rest ≡ records_from (suc n) proof =
@@ -241,9 +249,12 @@ module _ {single : ℕ → Bool} {labels : List Label} {keys : List Key} {proof 
             each i (inl e) = subst LineRecord (s.here ∙ ap (λ (j : ℕ). records_from j proof) (sym e)) (line_record labels (lines_from n proof) rest its)
             each i (inr h) = s.earlier.each i h
 
-        pub sofar_unfollowed : (question : Key) → not r ≡ true → ProofJudged single labels keys question (proof_walked labels proof) (checked_answer (Refused 9 n))
+        pub sofar_unfollowed : (question : Key) → r ≡ false → {judged : Result Unit Fault} → judged ≡ Err (record { kind = Unfollowed; place = n })
+            → ProofJudged single labels keys question (proof_walked labels proof) (checked_answer judged)
         unfolding checked_answer
-        sofar_unfollowed question t =
+        sofar_unfollowed question t {judged} is_fault =
+            rw is_fault
+            (
             let x = walk_extends labels (lines_from n proof ++ (read_line (record_body rest) ∷ [])) (suc n) (drop (record_length rest) rest) in
             let state : (proof_walked labels proof).state ≡ lines_from n proof ++ (read_line (record_body rest) ∷ x.more) =
             ap (λ (w : Walked (List Line)). w.state) (sym step) ∙ x.is ∙ append_assoc (lines_from n proof) (read_line (record_body rest) ∷ []) x.more in
@@ -255,7 +266,7 @@ module _ {single : ℕ → Bool} {labels : List Label} {keys : List Key} {proof 
             (new_did_follow single labels keys (lines_from n proof) (read_line (record_body rest)) x.more
             (subst (λ (j : ℕ). FollowsAt single labels keys (lines_from n proof ++ (read_line (record_body rest) ∷ x.more)) j) s.lines.counted
             (subst (λ (l : List Line). FollowsAt single labels keys l n) state f))))
-            refl
+            refl)
 
 -- a question that was accepted, as the comparison asks it
 pub record IsQuestion (question : List ℕ) : Type 0 where
@@ -278,37 +289,37 @@ module _ {question : List ℕ} (q : IsQuestion question) where
   question_end e = omega (arith, q.within)
 
 -- "Then 10": the last line's key is the question, or not
-pub data LastTold (last : Option Key) (question : Key) (place : ℕ) (r : Judged) : Type 0 where
-  ends : last ≡ some question → r ≡ Sound → LastTold last question place r
-  other : (last ≡ some question → ⊥) → r ≡ Refused 10 place → LastTold last question place r
+pub data LastTold (last : Option Key) (question : Key) (place : ℕ) (r : Result Unit Fault) : Type 0 where
+  ends : (u : Unit) → last ≡ some question → r ≡ Ok u → LastTold last question place r
+  other : (last ≡ some question → ⊥) → r ≡ Err (record { kind = OtherEnd; place = place }) → LastTold last question place r
 
 module _ (lines : ℕ) (proof : List ℕ) (q : Key) where
-  pub last_empty : lines ≡ 0 → LastTold (get_elem? (line_keys (lines_from lines proof)) (lines - 1)) q (lines - 1) (Refused 10 0)
+  pub last_empty : lines ≡ 0 → LastTold (get_elem? (line_keys (lines_from lines proof)) (lines - 1)) q (lines - 1) (Err (record { kind = OtherEnd; place = 0 }))
   last_empty e =
       let z : 0 ≡ lines - 1 = omega arith in
-      other (λ h. none-ne-some _ (sym (line_none lines (lines - 1) proof (omega arith)) ∙ h)) (ap (Refused 10) z)
+      other (λ h. none-ne-some _ (sym (line_none lines (lines - 1) proof (omega arith)) ∙ h)) (ap (λ (place : ℕ). Err (record { kind = OtherEnd; place = place })) z)
 
 module _ (lines : ℕ) (proof question : List ℕ) (asked : IsQuestion question) (earlier : Earlier lines proof)
     (is_line : lines ≡ 0 → ⊥) {p : List ℕ} (e : p ≡ drop 5 (record_body (records_from (lines - 1) proof)))
-    {stop : ℕ} (f : stop ≡ word question 0) {r : Bool} (g : r ≡ same p (take (stop - 4) (drop 4 question))) where
+    {stop : ℕ} (f : stop ≡ word question 0) {r : Bool} (g : r ≡ pointwise ◌==◌ p (take (stop - 4) (drop 4 question))) where
   less : lines - 1 < lines
   less = let h : 0 < lines = omega arith in omega arith
 
   told : r ≡ same (drop 5 (record_body (records_from (lines - 1) proof))) (record_body question)
-  told = g ∙ ap₂ same e (body_part question f)
+  told = g ∙ same_list _ _ ∙ ap₂ same e (body_part question f)
 
   key_shape : is_some (read_key (drop 5 (record_body (records_from (lines - 1) proof)))) ≡ true
   key_shape = (earlier.each (lines - 1) less).key.shape
 
-  pub last_same : r ≡ true → LastTold (get_elem? (line_keys (lines_from lines proof)) (lines - 1)) (question_in question) (lines - 1) Sound
+  pub last_same : (u : Unit) → r ≡ true → LastTold (get_elem? (line_keys (lines_from lines proof)) (lines - 1)) (question_in question) (lines - 1) (Ok u)
   unfolding question_in
-  last_same t =
-      ends
+  last_same u t =
+      ends u
       (line_at lines (lines - 1) proof less
       ∙ ap (λ (b : List ℕ). some (key_in b)) (same_eq _ _ (of_true _ (sym told ∙ t))))
       refl
 
-  pub last_other : r ≡ false → LastTold (get_elem? (line_keys (lines_from lines proof)) (lines - 1)) (question_in question) (lines - 1) (Refused 10 (lines - 1))
+  pub last_other : r ≡ false → LastTold (get_elem? (line_keys (lines_from lines proof)) (lines - 1)) (question_in question) (lines - 1) (Err (record { kind = OtherEnd; place = lines - 1 }))
   unfolding question_in
   last_other t =
       other
@@ -321,7 +332,7 @@ module _ (lines : ℕ) (proof question : List ℕ) (asked : IsQuestion question)
       refl
 
 pub sofar_done : {single : ℕ → Bool} {labels : List Label} {keys : List Key} {proof : List ℕ} {n : ℕ} {rest : List ℕ} → Sofar single labels keys proof n rest → length rest ≤ 0
-    → {question : Key} {r : Judged} → LastTold (get_elem? (line_keys (lines_from n proof)) (n - 1)) question (n - 1) r
+    → {question : Key} {r : Result Unit Fault} → LastTold (get_elem? (line_keys (lines_from n proof)) (n - 1)) question (n - 1) r
     → ProofJudged single labels keys question (proof_walked labels proof) (checked_answer r)
 unfolding checked_answer EndsWith
 sofar_done {single} {labels} {keys} {proof} {n} {rest} s h {question} {r} told =
@@ -347,7 +358,7 @@ sofar_done {single} {labels} {keys} {proof} {n} {rest} s h {question} {r} told =
     place = ap (λ (j : ℕ). j - 1) s.lines.counted
 
     go : LastTold (get_elem? (line_keys (lines_from n proof)) (n - 1)) question (n - 1) r → ProofJudged single labels keys question stopped (checked_answer r)
-    go (ends e q) = proved all refl (ap (get_elem? (line_keys (lines_from n proof))) (sym place) ∙ e) (ap checked_answer q)
+    go (ends u e q) = proved all refl (ap (get_elem? (line_keys (lines_from n proof))) (sym place) ∙ e) (ap checked_answer q)
     go (other e q) =
         other_end all refl (λ x. e (ap (get_elem? (line_keys (lines_from n proof))) place ∙ x))
         (ap checked_answer q ∙ ap (λ (j : ℕ). refused_by (record { number = 10; input = 3; place = j }) []) place)

@@ -1,12 +1,11 @@
 -- Lines that follow, when a list of lines grows at its end.
-use Rattle.std.specs.Prelude.{ℕ, suc, ◌<◌, ◌≤◌, ◌≡◌, ◌⊎◌, Bool, true, false, not, length}
+use Rattle.std.specs.Prelude.{ℕ, suc, ◌<◌, ◌≤◌, ◌≡◌, ◌⊎◌, Bool, true, false, length}
 use Rattle.std.proofs.Common.{sym, ◌∙◌, inl, inr, arith, eq-or-lt_of_le, le_of_suc-le-suc}
 use Rattle.std.proofs.Math.Path.{subst}
 use mathlib.Core.List.{List, [], ◌∷◌, ◌++◌}
 use Rattle.std.proofs.Math.Option.{some-injective}
 use Rattle.std.proofs.lemmas.List.{take-append-le}
 use Rattle.std.proofs.Math.Seq.{take-append_seam}
-use Rattle.std.proofs.lemmas.Bool.{not-true, not-false}
 use Rattle.meaning.specs.Limits.{in_proof}
 use Rattle.meaning.specs.Lists.{Each, end, also}
 use Rattle.meaning.specs.Paths.{Label}
@@ -65,8 +64,8 @@ module _ (single : ℕ → Bool) (labels : List Label) (keys : List Key) where
 module _ (single : ℕ → Bool) (labels : List Label) (known : GoodLabels labels) (keys : List Key) (lines : List Line)
     (good : Each (λ (x : Line). GoodKey labels in_proof x.key) lines) (line : Line) (good_line : GoodKey labels in_proof line.key)
     {r : Bool} (e : r ≡ follows_in_test single keys (line_keys lines) line) where
-  pub told_follows : not r ≡ false → FollowsIn single labels keys (line_keys lines) line
-  told_follows t = test_follows_in single labels known in_proof keys (line_keys lines) (good_keys good) line good_line (of_true _ (sym e ∙ not-false _ t))
+  pub told_follows : r ≡ true → FollowsIn single labels keys (line_keys lines) line
+  told_follows t = test_follows_in single labels known in_proof keys (line_keys lines) (good_keys good) line good_line (of_true _ (sym e ∙ t))
 
-  pub told_not : not r ≡ true → FollowsIn single labels keys (line_keys lines) line → ⊥
-  told_not t f = of_false _ (sym e ∙ not-true _ t) (follows_in_test_lem single labels known in_proof keys (line_keys lines) (good_keys good) line good_line f)
+  pub told_not : r ≡ false → FollowsIn single labels keys (line_keys lines) line → ⊥
+  told_not t f = of_false _ (sym e ∙ t) (follows_in_test_lem single labels known in_proof keys (line_keys lines) (good_keys good) line good_line f)

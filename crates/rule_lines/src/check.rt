@@ -10,9 +10,8 @@ ghost use Rattle.read_inputs.specs.Accepted.{Given};
 ghost use Rattle.rule_lines.specs.Checking.{IsQuestion, LastTold, checked_answer};
 
 use read_entry::keys::judge_line;
-use read_judged::{ACCEPTED, Judged, OTHER_END, UNFOLLOWED};
+use read_judged::{Judged, RefusalKind, at_record};
 use read_record::fields::{HEAD_BYTES, word};
-use read_record::names::same_bytes;
 use read_walker::record_at;
 use rule_follows::follows;
 use rule_premises::line_key;
@@ -23,15 +22,15 @@ fn last_is(proof: &[u8], lines: usize, question: &[u8]) -> Judged
     ensures { LastTold (get_elem? (line_keys (lines_from lines proof.now)) (lines - 1)) (question_in question.now) (lines - 1) result }
 {
     if lines == 0 {
-        return Judged::Refused(OTHER_END, 0);
+        return at_record(Err(RefusalKind::OtherEnd), 0);
     }
     let last = lines - 1;
-    let key = line_key(proof, last);
     let end = word(question, 0);
-    if same_bytes(key, &question[HEAD_BYTES..end]) {
-        return Judged::Sound;
+    if line_key(proof, last) == &question[HEAD_BYTES..end] {
+        Ok(())
+    } else {
+        at_record(Err(RefusalKind::OtherEnd), last)
     }
-    Judged::Refused(OTHER_END, last)
 }
 
 // A whole proof, under an accepted profile with so many records before its keys and so many keys, and an accepted question.
@@ -50,11 +49,8 @@ pub fn check_lines(
     let part = record_at(profile, before);
     let mut rest = proof;
     let mut n = 0;
-    while 0 < rest.len() {
-        let number = judge_line(rest, classes, n);
-        if number != ACCEPTED {
-            return Judged::Refused(number, n);
-        }
+    while !rest.is_empty() {
+        at_record(judge_line(rest, classes, n), n)?;
         let end = word(rest, 0);
         if !follows(
             part,
@@ -65,7 +61,7 @@ pub fn check_lines(
             classes,
             second,
         ) {
-            return Judged::Refused(UNFOLLOWED, n);
+            return at_record(Err(RefusalKind::Unfollowed), n);
         }
         rest = &rest[end..];
         n += 1;

@@ -44,6 +44,8 @@ module _ (rule : ℕ) where
   unfolding premise_count without_premise
   count_other a b c d = rw (ne_eqb rule 0 a, ne_eqb rule 1 b, ne_eqb rule 10 c, ne_eqb rule 9 d)
 
+pub ruleset counts = (count_cited, count_epsilon, count_attribute, count_interaction, count_other)
+
 -- a line by the number of its premises
 pub data Uses (l : Line) : ℕ → Type 0 where
   none : without_premise l.rule ≡ true → Uses l 0

@@ -1,4 +1,4 @@
-// The lines of an accepted proof that stay when it is trimmed (02, request 10), and their new numbers.
+// The lines of an accepted proof that stay when it is trimmed, and their new numbers.
 #![tactic(auto)]
 
 pub mod marks;

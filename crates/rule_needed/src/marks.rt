@@ -1,73 +1,52 @@
 // "removes lines from which that line is not reached through premises": from the end down, each line that stays marks the lines it points to.
-ghost use Rattle.std.specs.Prelude.{◌≡◌, false, true, ◌-◌, ◌<◌, get_or, set};
+ghost use Rattle.std.specs.Prelude.{◌≡◌, false, true, ◌-◌, ◌<◌, get_or};
 ghost use Rattle.meaning.specs.Records.{read_line};
 ghost use Rattle.theory_trim.specs.Marks.{Marking};
 ghost use Rattle.rule_premises.specs.Premises.{lines_from};
 ghost use Rattle.rule_needed.specs.Marked.{premise_count, points_to, marked, marked_if, Known, Linked};
 
-use read_record::fields::{wide, word};
+use read_record::fields::word;
 use read_record::limits::{CITATION, EPSILON, INTERACTION, ONE_ATTRIBUTE};
 use rule_premises::{FIRST_AT, SECOND_AT};
 use rule_stands::stands::{PROOF_LINES, line_body};
 
 // How many premises a rule has: none for 0, which cites a key of the profile, 1 and 10; two for 9.
+#[tactic(auto, using(crate::specs::Marked::counts))]
 pub fn premise_count(rule: usize) -> usize
     ensures { result ≡ premise_count rule }
 {
     match rule {
-        CITATION => 0,
-        EPSILON => 0,
-        ONE_ATTRIBUTE => 0,
+        CITATION | EPSILON | ONE_ATTRIBUTE => 0,
         INTERACTION => 2,
         _ => 1,
     }
 }
 
-fn with_mark(marks: [bool; PROOF_LINES], n: usize) -> [bool; PROOF_LINES]
-    requires { n < 256 }
-    ensures { result ≡ set marks n true }
-{
-    let mut after = marks;
-    after[n] = true;
-    after
-}
-
 // The lines that a line's premises point to.
-fn mark_premises(
-    marks: [bool; PROOF_LINES],
-    firsts: &[usize; PROOF_LINES],
-    body: &[u8],
-) -> [bool; PROOF_LINES]
+fn mark_premises(marks: &mut [bool; PROOF_LINES], firsts: &[usize; PROOF_LINES], body: &[u8])
     requires { Known firsts.now body.now }
-    ensures { result ≡ marked (points_to firsts.now (read_line body.now)) marks }
+    ensures { marks.new ≡ marked (points_to firsts.now (read_line body.now)) marks.old }
 {
-    let used = premise_count(wide(body[0]));
+    let used = premise_count(usize::from(body[0]));
     if used == 0 {
-        return marks;
+        return;
     }
-    let first = word(body, FIRST_AT);
-    let one = with_mark(marks, firsts[first]);
+    marks[firsts[word(body, FIRST_AT)]] = true;
     if used == 1 {
-        return one;
+        return;
     }
-    let second = word(body, SECOND_AT);
-    with_mark(one, firsts[second])
+    marks[firsts[word(body, SECOND_AT)]] = true;
 }
 
 // Line n, with this body: where it is marked it stays, and marks.
-fn mark_line(
-    marks: [bool; PROOF_LINES],
-    n: usize,
-    firsts: &[usize; PROOF_LINES],
-    body: &[u8],
-) -> [bool; PROOF_LINES]
+#[tactic(auto, unfolding(crate::specs::Marked::marked_if))]
+fn mark_line(marks: &mut [bool; PROOF_LINES], n: usize, firsts: &[usize; PROOF_LINES], body: &[u8])
     requires { (n < 256) × Known firsts.now body.now }
-    ensures { result ≡ marked_if (get_or marks n false) (points_to firsts.now (read_line body.now)) marks }
+    ensures { marks.new ≡ marked_if (get_or marks.old n false) (points_to firsts.now (read_line body.now)) marks.old }
 {
-    if !marks[n] {
-        return marks;
+    if marks[n] {
+        mark_premises(marks, firsts, body);
     }
-    mark_premises(marks, firsts, body)
 }
 
 // The lines that stay: the end, which is the earliest line with the last line's key, and those from which it is reached.
@@ -84,11 +63,8 @@ pub fn find_needed(
     let end = firsts[last];
     let mut marks = [false; PROOF_LINES];
     marks[end] = true;
-    let mut n = end + 1;
-    while 0 < n {
-        n -= 1;
-        let body = line_body(proof, at[n]);
-        marks = mark_line(marks, n, firsts, body);
+    for n in (0..end + 1).rev() {
+        mark_line(&mut marks, n, firsts, line_body(proof, at[n]));
     }
     marks
 }

@@ -8,10 +8,7 @@ fn next_number(next: usize, mark: bool) -> usize
     requires { next < 256 }
     ensures { result ≡ cond mark (next + 1) next }
 {
-    if mark {
-        return next + 1;
-    }
-    next
+    if mark { next + 1 } else { next }
 }
 
 pub fn find_numbers(marks: &[bool; PROOF_LINES], end: usize) -> [usize; PROOF_LINES]
@@ -20,11 +17,9 @@ pub fn find_numbers(marks: &[bool; PROOF_LINES], end: usize) -> [usize; PROOF_LI
 {
     let mut found = [0usize; PROOF_LINES];
     let mut next = 0;
-    let mut n = 0;
-    while n <= end {
+    for n in 0..end + 1 {
         found[n] = next;
         next = next_number(next, marks[n]);
-        n += 1;
     }
     found
 }

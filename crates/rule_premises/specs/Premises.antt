@@ -1,6 +1,8 @@
 -- The premises of a line where they stand: the keys of a part of a profile, the lines at the front of a proof; and a law for each return.
 use Prim.Native.Nat.{ℕ, zero, suc, ◌+◌, ◌-◌, ◌<◌, ◌≤◌}
-use Rattle.std.specs.Prelude.{◌≡◌, Bool, ◌&&◌, get_or, drop}
+use Rattle.std.specs.Prelude.{◌≡◌, Bool, ◌&&◌, get_or, drop, ltb, ◌==◌}
+use Rattle.std.specs.Cmp.Lexicographic.{pointwise}
+use Rattle.read_record.specs.Library.{same_list}
 use Rattle.std.proofs.Math.Path.{refl, sym, ap}
 use Rattle.std.proofs.Common.{subst, ◌∙◌, arith}
 use Rattle.std.proofs.Math.Bool.{true, false}
@@ -8,7 +10,7 @@ use mathlib.Core.List.{List, [], ◌∷◌}
 use Rattle.std.proofs.Math.Option.{Option, none, some}
 use Rattle.std.proofs.Math.Dec.{eqb, eqb-suc-zero}
 use Rattle.std.proofs.Math.ListN.{length, take, get_elem?}
-use borrow.Author.Tests.{eq-eqb, ne_eqb}
+use borrow.Author.Tests.{eq-eqb, ne_eqb, le-ltb}
 use borrow.Author.Rules.{part_to_end}
 use Rattle.meaning.specs.Lists.{is_empty, same}
 use Rattle.meaning.specs.Keys.{Key}
@@ -87,33 +89,34 @@ bodies_same a b ea eb =
     (λ t. eq_same a b (sym (key_in_written a ea) ∙ ap key_body (same_key_eq (key_in a) (key_in b) t) ∙ key_in_written b eb))
 
 module _ (keys first : ℕ) (part k : List ℕ) where
-  pub cites_none : keys ≤ first → false ≡ cited (keys_from keys part) first (key_in k)
+  pub cites_none : keys ≤ first → ltb first keys ≡ cited (keys_from keys part) first (key_in k)
   unfolding cited on_premise
-  cites_none h = rw (key_none keys first part h)
+  cites_none h = le-ltb first keys h ∙ rw (key_none keys first part h)
 
-  pub cites_some : KeyRecords keys part → is_some (read_key k) ≡ true → first < keys → {rest : List ℕ} → rest ≡ records_from first part
-      → {end : ℕ} → end ≡ word rest 0 → {r : Bool} → r ≡ same (take (end - 4) (drop 4 rest)) k → r ≡ cited (keys_from keys part) first (key_in k)
-  unfolding cited on_premise record_body record_length
-  cites_some h e i {rest} q f g =
-      g ∙ ap (λ (l : List ℕ). same l k) (body rest (records_from first part) q f)
+  pub cites_some : KeyRecords keys part → is_some (read_key k) ≡ true → first < keys → {body : List ℕ} → body ≡ record_body (records_from first part)
+      → {r : Bool} → r ≡ pointwise ◌==◌ body k → r ≡ cited (keys_from keys part) first (key_in k)
+  unfolding cited on_premise
+  cites_some h e i q g =
+      g ∙ same_list _ k ∙ ap (λ (l : List ℕ). same l k) q
       ∙ bodies_same (record_body (records_from first part)) k (key_shape (h.each first i)) e
       ∙ rw (key_at keys first part i)
-    where
-      body : (l m : List ℕ) → l ≡ m → {n : ℕ} → n ≡ word l 0 → take (n - 4) (drop 4 l) ≡ record_body m
-      body l m e {n} f = ap (λ (j : ℕ). take (j - 4) (drop 4 l)) f ∙ ap (λ (j : List ℕ). take (word j 0 - 4) (drop 4 j)) e
 
 -- where a record stands, its length and its end
 module _ {l : List ℕ} (r : KeyRecord l) {rest : List ℕ} (e : rest ≡ l) where
-  pub key_head : 0 + 1 < length rest
-  key_head = omega (arith, r.is_whole.long, r.is_whole.within, ap length e)
+  pub cite_head : 0 + 1 < length rest
+  cite_head = omega (arith, r.is_whole.long, r.is_whole.within, ap length e)
 
-  pub key_start : {end : ℕ} → end ≡ word rest 0 → 4 ≤ end
+  pub cite_start : {end : ℕ} → end ≡ word rest 0 → 4 ≤ end
   unfolding record_length
-  key_start f = omega (arith, r.is_whole.long, ap (λ (m : List ℕ). word m 0) e)
+  cite_start f = omega (arith, r.is_whole.long, ap (λ (m : List ℕ). word m 0) e)
 
-  pub key_end : {end : ℕ} → end ≡ word rest 0 → end ≤ length rest
+  pub cite_end : {end : ℕ} → end ≡ word rest 0 → end ≤ length rest
   unfolding record_length
-  key_end f = omega (arith, r.is_whole.within, ap (λ (m : List ℕ). word m 0) e, ap length e)
+  cite_end f = omega (arith, r.is_whole.within, ap (λ (m : List ℕ). word m 0) e, ap length e)
+
+  pub cite_is : {end : ℕ} → end ≡ word rest 0 → take (end - 4) (drop 4 rest) ≡ record_body l
+  unfolding record_body record_length
+  cite_is f = ap (λ (j : ℕ). take (j - 4) (drop 4 rest)) f ∙ ap (λ (j : List ℕ). take (word j 0 - 4) (drop 4 j)) e
 
 module _ {l : List ℕ} (r : LineRecord l) {rest : List ℕ} (e : rest ≡ l) where
   pub line_head : 0 + 1 < length rest
@@ -130,55 +133,11 @@ module _ {l : List ℕ} (r : LineRecord l) {rest : List ℕ} (e : rest ≡ l) wh
   pub line_key_is : {end : ℕ} → end ≡ word rest 0 → take (end - 9) (drop 9 rest) ≡ drop 5 (record_body l)
   line_key_is f = line_key_part rest f ∙ ap (λ (m : List ℕ). drop 5 (record_body m)) e
 
--- by the rule's number
-module _ (p k : Key) (rule : ℕ) where
-  pub rule_two : rule ≡ 2 → {r : Bool} → r ≡ prefix_epsilon_test p k → r ≡ one_test rule p k
-  unfolding one_test
-  rule_two e h = rw e h
-
-  pub rule_three : rule ≡ 3 → {r : Bool} → r ≡ superkey_test p k → r ≡ one_test rule p k
-  unfolding one_test
-  rule_three e h = rw e h
-
-  pub rule_four : rule ≡ 4 → {r : Bool} → r ≡ subnodes_test p k → r ≡ one_test rule p k
-  unfolding one_test
-  rule_four e h = rw e h
-
-  pub rule_five : rule ≡ 5 → {r : Bool} → r ≡ context_path_test p k → r ≡ one_test rule p k
-  unfolding one_test
-  rule_five e h = rw e h
-
-  pub rule_six : rule ≡ 6 → {r : Bool} → r ≡ target_path_test p k → r ≡ one_test rule p k
-  unfolding one_test
-  rule_six e h = rw e h
-
-  pub rule_seven : rule ≡ 7 → {r : Bool} → r ≡ context_target_test p k → r ≡ one_test rule p k
-  unfolding one_test
-  rule_seven e h = rw e h
-
-  pub rule_eight : rule ≡ 8 → {r : Bool} → r ≡ subnodes_epsilon_test p k → r ≡ one_test rule p k
-  unfolding one_test
-  rule_eight e h = rw e h
-
-pub rule_none : (p k : Key) (rule : ℕ) → (rule ≡ 2 → ⊥) → (rule ≡ 3 → ⊥) → (rule ≡ 4 → ⊥) → (rule ≡ 5 → ⊥) → (rule ≡ 6 → ⊥) → (rule ≡ 7 → ⊥)
-    → (rule ≡ 8 → ⊥) → false ≡ one_test rule p k
-unfolding one_test
-rule_none p k zero a b c d e f g = refl
-rule_none p k (suc zero) a b c d e f g = refl
-rule_none p k (suc (suc zero)) a b c d e f g = absurd (a refl)
-rule_none p k (suc (suc (suc zero))) a b c d e f g = absurd (b refl)
-rule_none p k (suc (suc (suc (suc zero)))) a b c d e f g = absurd (c refl)
-rule_none p k (suc (suc (suc (suc (suc zero))))) a b c d e f g = absurd (d refl)
-rule_none p k (suc (suc (suc (suc (suc (suc zero)))))) a b c d e f g = absurd (e refl)
-rule_none p k (suc (suc (suc (suc (suc (suc (suc zero))))))) a b c d e f g = absurd (f refl)
-rule_none p k (suc (suc (suc (suc (suc (suc (suc (suc zero)))))))) a b c d e f g = absurd (g refl)
-rule_none p k (suc (suc (suc (suc (suc (suc (suc (suc (suc n))))))))) a b c d e f g = refl
-
 -- one premise, two premises
 module _ (number : ℕ) (proof : List ℕ) (k : Key) where
-  pub one_none : (rule first : ℕ) → number ≤ first → false ≡ by_one (line_keys (lines_from number proof)) rule first k
+  pub one_none : (rule first : ℕ) → number ≤ first → ltb first number ≡ by_one (line_keys (lines_from number proof)) rule first k
   unfolding by_one on_premise
-  one_none rule first h = rw (line_none number first proof h)
+  one_none rule first h = le-ltb first number h ∙ rw (line_none number first proof h)
 
   pub one_some : (rule first : ℕ) → first < number → {p : List ℕ} → p ≡ drop 5 (record_body (records_from first proof))
       → {r : Bool} → r ≡ one_test rule (key_in p) k → r ≡ by_one (line_keys (lines_from number proof)) rule first k
@@ -288,25 +247,14 @@ premise_both e h i a b = record { first = premise_key e h a; second = premise_ke
 pub earlier_at : {number : ℕ} {proof : List ℕ} → Earlier number proof → {n : ℕ} → n < number → LineRecord (records_from n proof)
 earlier_at e {n} h = e.each n h
 
--- the key that is cited
-module _ {keys : ℕ} {part : List ℕ} (r : KeyRecords keys part) {first : ℕ} (h : first < keys) {rest : List ℕ} (e : rest ≡ records_from first part) where
-  pub cite_head : 0 + 1 < length rest
-  cite_head = key_head (r.each first h) e
-
-  pub cite_start : {end : ℕ} → end ≡ word rest 0 → 4 ≤ end
-  cite_start f = key_start (r.each first h) e f
-
-  pub cite_end : {end : ℕ} → end ≡ word rest 0 → end ≤ length rest
-  cite_end f = key_end (r.each first h) e f
-
 -- a line with a premise field that its rule does not use
 pub used_line : (keys earlier : List Key) (body : List ℕ) {rule second : ℕ} → rule ≡ get_or body 0 0 → second ≡ word body 3 → (rule ≡ 9 → ⊥)
     → (second ≡ 65535 → ⊥) → false ≡ follows_test keys earlier (read_line body)
 used_line keys earlier body e s a b = follows_used keys earlier body e refl s refl a b
 
 pub used_epsilon : (keys earlier : List Key) (body : List ℕ) {rule first : ℕ} → rule ≡ get_or body 0 0 → first ≡ word body 1 → rule ≡ 1
-    → (first ≡ 65535 → ⊥) → false ≡ follows_test keys earlier (read_line body)
-used_epsilon keys earlier body e f a b = follows_epsilon_used keys earlier body e f refl refl a b
+    → (first ≡ 65535 → ⊥) → eqb first 65535 ≡ follows_test keys earlier (read_line body)
+used_epsilon keys earlier body {rule} {first} e f a b = ne_eqb first 65535 b ∙ follows_epsilon_used keys earlier body e f refl refl a b
 
 -- the key of a line, as the code has it
 pub body_key : {body : List ℕ} → LineBody body → {k : List ℕ} → k ≡ take (length body - 5) (drop 5 body) → LineKey k
@@ -317,3 +265,16 @@ body_shape h e = (body_key h e).shape
 
 pub earlier_last : {lines : ℕ} {proof : List ℕ} → Earlier lines proof → (lines ≡ 0 → ⊥) → LineRecord (records_from (lines - 1) proof)
 earlier_last {lines} e ne = e.each (lines - 1) (omega arith)
+
+-- the laws that a function's returns and its calls cite
+pub ruleset cited_bounds = (cite_head, cite_start, cite_end, cite_is)
+
+pub ruleset citation = (cites_none, cites_some)
+
+pub ruleset line_bounds = (line_head, line_start, line_end, line_key_is)
+
+pub ruleset one_premise = (one_none, one_some, premise_pair, earlier_at)
+
+pub ruleset two_premises = (two_first, two_second, two_some, premise_pair, premise_both, earlier_at)
+
+pub ruleset line_returns = (follows_two, used_line, follows_cited, follows_one, used_epsilon, follows_epsilon, body_key, body_shape)

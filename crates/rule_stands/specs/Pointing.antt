@@ -1,5 +1,7 @@
 -- The earliest line with the key of a line, found by comparing key bodies.
-use Rattle.std.specs.Prelude.{ℕ, zero, suc, ◌+◌, ◌-◌, ◌≤◌, ◌<◌, ◌≡◌, refl, ◌⊎◌, Bool, true, false, cond, length, get_or, set, take}
+use Rattle.std.specs.Prelude.{ℕ, zero, suc, ◌+◌, ◌-◌, ◌≤◌, ◌<◌, ◌≡◌, refl, ◌⊎◌, Bool, true, false, cond, length, get_or, set, take, ◌==◌}
+use Rattle.std.specs.Cmp.Lexicographic.{pointwise}
+use Rattle.read_record.specs.Library.{same_list}
 use Rattle.std.proofs.Common.{sym, subst, ◌∙◌, inl, inr, arith, eq-or-lt_of_le, le_of_suc-le-suc, add-one, length-set, get_or-set_same, get_or-set_other}
 use Rattle.std.proofs.Math.Path.{ap, ap₂}
 use mathlib.Core.List.{List, [], ◌∷◌}
@@ -96,9 +98,9 @@ module _ {n : ℕ} {proof at : List ℕ} (s : Standing (suc n) proof at) where
 
   module _ {i : ℕ} (a : Apart proof n i) (less : i < n) {other own : List ℕ} (is_other : other ≡ record_body (drop (get_or at i 0) proof))
       (is_own : own ≡ record_body (drop (get_or at n 0) proof)) {b : Bool}
-      (told : b ≡ same (take (length other - 5) (drop 5 other)) (take (length own - 5) (drop 5 own))) where
+      (told : b ≡ pointwise ◌==◌ (take (length other - 5) (drop 5 other)) (take (length own - 5) (drop 5 own))) where
     compared : b ≡ same (key_at proof i) (key_at proof n)
-    compared = told ∙ ap₂ same (key_is i (omega arith) is_other) (key_is n (omega arith) is_own)
+    compared = told ∙ same_list _ _ ∙ ap₂ same (key_is i (omega arith) is_other) (key_is n (omega arith) is_own)
 
     pub first_same : b ≡ true → FirstOf proof n i
     first_same e = first_at i a (sym compared ∙ e)

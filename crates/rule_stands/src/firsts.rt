@@ -5,7 +5,6 @@ ghost use Rattle.rule_stands.specs.Pointing.{FirstOf, Pointing};
 
 use crate::stands::{PROOF_LINES, line_body};
 use read_record::bodies::LINE_FIELDS;
-use read_record::names::same_bytes;
 
 // The earliest line that has the key of line n: equal keys are equal bodies.
 fn first_of(proof: &[u8], at: &[usize; PROOF_LINES], n: usize) -> usize
@@ -13,13 +12,11 @@ fn first_of(proof: &[u8], at: &[usize; PROOF_LINES], n: usize) -> usize
     ensures { FirstOf proof.now n result }
 {
     let own = line_body(proof, at[n]);
-    let mut i = 0;
-    while i < n {
+    for i in 0..n {
         let other = line_body(proof, at[i]);
-        if same_bytes(&other[LINE_FIELDS..], &own[LINE_FIELDS..]) {
+        if &other[LINE_FIELDS..] == &own[LINE_FIELDS..] {
             return i;
         }
-        i += 1;
     }
     n
 }
@@ -29,10 +26,8 @@ pub fn find_firsts(proof: &[u8], at: &[usize; PROOF_LINES], count: usize) -> [us
     ensures { Pointing count count proof.now result }
 {
     let mut found = [0usize; PROOF_LINES];
-    let mut n = 0;
-    while n < count {
+    for n in 0..count {
         found[n] = first_of(proof, at, n);
-        n += 1;
     }
     found
 }

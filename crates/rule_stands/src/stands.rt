@@ -10,7 +10,7 @@ use read_record::fields::{HEAD_BYTES, word};
 pub const PROOF_LINES: usize = 256;
 
 // The place of each line in the proof, and how many there are.
-#[derive(Clone, Copy)]
+#[derive(Clone, Copy, Debug, PartialEq, Eq)]
 pub struct Stands {
     pub at: [usize; PROOF_LINES],
     pub count: usize,
@@ -36,7 +36,6 @@ pub fn line_body(proof: &[u8], place: usize) -> &[u8]
     requires { LineThere proof.now place }
     ensures { result.now ≡ record_body (drop place proof.now) }
 {
-    let start = place + HEAD_BYTES;
     let end = place + word(proof, place);
-    &proof[start..end]
+    &proof[place + HEAD_BYTES..end]
 }

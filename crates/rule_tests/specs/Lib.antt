@@ -2,4 +2,3 @@ pub mod Compare
 pub mod SetBytes
 pub mod Walks
 pub mod RuleLaws
-pub mod Chains

@@ -1,15 +1,16 @@
 -- Each rule's test as the code comes to it: the parts of a test that are functions of their own, and a law for each return that is not
 -- just the next test.
-use Rattle.std.specs.Prelude.{ℕ, zero, suc, ◌+◌, ◌-◌, ◌<◌, ◌≤◌, Bool, false, ◌&&◌, ◌||◌, T, leb, drop}
+use Rattle.std.specs.Prelude.{ℕ, zero, suc, ◌+◌, ◌-◌, ◌<◌, ◌≤◌, Bool, false, ◌&&◌, ◌||◌, T, leb, drop, ◌==◌}
+use Rattle.std.specs.List.{starts_with, ends_with}
 use Rattle.std.proofs.Math.Path.{◌≡◌, refl, sym, ap}
-use Rattle.std.proofs.Common.{ap₂, subst, ◌∙◌, take-append-drop, length-append, length-take, take-suc, get_or-drop}
+use Rattle.std.proofs.Common.{ap₂, subst, ◌∙◌, take-append-drop, length-append, length-take, length-drop, take-suc, get_or-drop}
 use Rattle.std.proofs.Math.Bool.{true, not}
 use mathlib.Core.List.{List, [], ◌∷◌, ◌++◌}
 use Rattle.std.proofs.Math.Numerals.{add-one}
 use native.Mathlib.Omega.{arith}
 use Rattle.std.proofs.Math.Dec.{eqb, eqb-suc-zero}
 use Rattle.std.proofs.Math.ListN.{length, get_or, take}
-use borrow.Author.Tests.{not-true, not-false, le-leb, lt-leb, leb-true}
+use borrow.Author.Tests.{leb-true, leb-false, ne_eqb}
 use borrow.Author.Rules.{part_to_end}
 use Rattle.meaning.specs.Lists.{same}
 use Rattle.meaning.specs.Paths.{normal, simple, join}
@@ -25,10 +26,9 @@ use Rattle.theory_rule_tests.specs.Subnodes.{goes_on, further, only_path, last_p
 use Rattle.theory_rule_tests.specs.Cuts.{ends_path, before_end, starts_any}
 use Rattle.theory_rule_tests.specs.Interactions.{prefixed, interaction_test}
 use Rattle.rule_joins.specs.Joins.{BothNormal}
-use Rattle.rule_joins.specs.Forms.{is_beginning, beginning_rest}
-use Rattle.rule_tests.specs.Walks.{beginning_is}
+use Rattle.read_record.specs.Library.{same_list}
 use Rattle.rule_joins.specs.Both.{same_sym}
-use Rattle.rule_tests.specs.Compare.{stop, go_on}
+use Rattle.rule_tests.specs.Walks.{begins_lib}
 use Rattle.rule_tests.specs.SetBytes.{TwoKeys, LineKey, LineKeys}
 
 -- T goes on behind the new target
@@ -36,29 +36,19 @@ pub record Further (p k : List ℕ) : Type 0 where
   pub keys : TwoKeys p k
   pub long : length (key_in k).target ≤ length (key_in p).target
 
-pub goes_on_long : (p k : List ℕ) → TwoKeys p k → {r : Bool} → r ≡ goes_on (key_in p) (key_in k) → not r ≡ false → Further p k
+pub goes_on_long : (p k : List ℕ) → TwoKeys p k → {r : Bool} → r ≡ goes_on (key_in p) (key_in k) → r ≡ true → Further p k
 unfolding goes_on
 goes_on_long p k h e t =
     let b = begins_split (key_in k).target (key_in p).target
-    (and_left (begins (key_in k).target (key_in p).target) (simple (further (key_in p) (key_in k))) (of_true _ (sym e ∙ not-false _ t))) in
+    (and_left (begins (key_in k).target (key_in p).target) (simple (further (key_in p) (key_in k))) (of_true _ (sym e ∙ t))) in
     record { keys = h; long = omega (arith, ap length b, length-append (key_in k).target (drop (length (key_in k).target) (key_in p).target)) }
 
-pub begins_fits : (front whole : List ℕ) {r : Bool} → r ≡ is_beginning front whole → not r ≡ false → length front ≤ length whole
-begins_fits front whole e t =
-    let b = beginning_rest front whole (of_true _ (sym e ∙ not-false _ t)) in
-    omega (arith, ap length b, length-append front (drop (length front) whole))
-
-pub goes_on_rest : (p k : Key) {whole front : List ℕ} → whole ≡ p.target → front ≡ k.target → {r : Bool} → r ≡ is_beginning front whole → not r ≡ false
+pub goes_on_rest : (p k : Key) {whole front : List ℕ} → whole ≡ p.target → front ≡ k.target → {r : Bool} → r ≡ starts_with ◌==◌ whole front → r ≡ true
     → {s : Bool} → s ≡ simple (take (length whole - length front) (drop (length front) whole)) → s ≡ goes_on p k
 unfolding goes_on further
 goes_on_rest p k {whole} {front} w f e t q =
-    go_on (e ∙ beginning_is front whole ∙ ap₂ begins f w) t
-    (q ∙ ap simple (part_to_end whole (length front)) ∙ ap₂ (λ (a b : List ℕ). simple (drop (length a) b)) f w)
-
-pub goes_on_not : (p k : Key) {whole front : List ℕ} → whole ≡ p.target → front ≡ k.target → {r : Bool} → r ≡ is_beginning front whole → not r ≡ true
-    → false ≡ goes_on p k
-unfolding goes_on
-goes_on_not p k {whole} {front} w f e t = stop (simple (further p k)) (e ∙ beginning_is front whole ∙ ap₂ begins f w) t
+    q ∙ ap simple (part_to_end whole (length front)) ∙ ap₂ (λ (a b : List ℕ). simple (drop (length a) b)) f w
+    ∙ sym (rw (sym (ap₂ begins f w) ∙ sym (begins_lib whole front) ∙ sym e ∙ t))
 
 -- rule 4, the sets
 unfoldable pub longer_only : Key → Key → Bool
@@ -72,39 +62,23 @@ and-false : (a : Bool) → (a && false) ≡ false
 and-false true = refl
 and-false false = refl
 
-one_not : (ps : List (List ℕ)) (q : List ℕ) → (length ps ≡ 1 → ⊥) → false ≡ same_sets ps (q ∷ [])
+pub rest_is : (l : List ℕ) (n : ℕ) → take (length l - n) (drop n l) ≡ drop n l
+rest_is l n = part_to_end l n
+
+one_test : (ps : List (List ℕ)) (q : List ℕ) → same_sets ps (q ∷ []) ≡ (eqb (length ps) 1 && same (get_or ps 0 []) q)
 unfolding same_sets
-one_not [] q n = refl
-one_not (p ∷ []) q n = absurd (n refl)
-one_not (p ∷ r ∷ ps) q n = sym (and-false (same p q))
+one_test [] q = refl
+one_test (p ∷ []) q = and-true (same p q)
+one_test (p ∷ r ∷ ps) q =
+    and-false (same p q) ∙ sym (ap (λ (b : Bool). b && same p q) (ne_eqb (suc (suc (length ps))) 1 (λ e. absurd (omega arith))))
 
-one_is : (ps : List (List ℕ)) (q : List ℕ) → length ps ≡ 1 → same_sets ps (q ∷ []) ≡ same (get_or ps 0 []) q
-unfolding same_sets
-one_is [] q e = absurd (omega arith)
-one_is (p ∷ []) q e = and-true (same p q)
-one_is (p ∷ r ∷ ps) q e = absurd (omega arith)
-
-only_is : (p : Key) → length p.paths ≡ 1 → same_sets p.paths (only_path p ∷ []) ≡ true
-unfolding only_path
-only_is p e = one_is p.paths (get_or p.paths 0 []) e ∙ true_of _ (eq_same _ _ refl)
-
-module _ (p k : Key) where
-  pub longer_old : {n : ℕ} → n ≡ length p.paths → (n ≡ 1 → ⊥) → false ≡ longer_only p k
-  unfolding longer_only
-  longer_old e h = rw (sym (one_not p.paths (only_path p) (λ q. h (e ∙ q))))
-
-  pub longer_new : {n m : ℕ} → n ≡ length p.paths → n ≡ 1 → m ≡ length k.paths → (m ≡ 1 → ⊥) → false ≡ longer_only p k
-  unfolding longer_only
-  longer_new e t g h = rw (only_is p (sym e ∙ t)) (one_not k.paths _ (λ q. h (g ∙ q)))
-
-  pub longer_both : {n m : ℕ} → n ≡ length p.paths → n ≡ 1 → m ≡ length k.paths → m ≡ 1
-      → {front whole new old : List ℕ} → front ≡ k.target → whole ≡ p.target → new ≡ get_or k.paths 0 [] → old ≡ get_or p.paths 0 []
-      → {r : Bool} → r ≡ same new (take (length whole - length front) (drop (length front) whole) ++ old) → r ≡ longer_only p k
-  unfolding longer_only further only_path
-  longer_both e t g s {front} {whole} {new} {old} f w a o q =
-      q ∙ ap (λ (l : List ℕ). same new (l ++ old)) (part_to_end whole (length front)) ∙ (rw (f, w, a, o))
-      ∙ sym (one_is k.paths (drop (length k.target) p.target ++ get_or p.paths 0 []) (sym g ∙ s))
-      ∙ sym (ap (λ (b : Bool). b && same_sets k.paths ((drop (length k.target) p.target ++ get_or p.paths 0 []) ∷ [])) (only_is p (sym e ∙ t)))
+pub longer_is : (p k : Key)
+    → longer_only p k ≡ (eqb (length p.paths) 1 && (eqb (length k.paths) 1 && same (get_or k.paths 0 []) (drop (length k.target) p.target ++ get_or p.paths 0 [])))
+unfolding longer_only further only_path
+longer_is p k =
+    ap₂ ◌&&◌
+    (one_test p.paths (get_or p.paths 0 []) ∙ ap (λ (b : Bool). eqb (length p.paths) 1 && b) (true_of _ (eq_same _ _ refl)) ∙ and-true _)
+    (one_test k.paths (drop (length k.target) p.target ++ get_or p.paths 0 []))
 
 -- rule 8, the sets
 unfoldable pub longer_last : Key → Key → Bool
@@ -125,25 +99,26 @@ ends_with_empty k x =
     ∙ ap with_empty (same_eq (last_path k) x (and_right (same_sets k.paths (with_empty (last_path k))) (same (last_path k) x) t))))
 
 module _ (p k : Key) where
-  pub last_old : {r : Bool} → r ≡ same_sets p.paths (with_empty (last_path p)) → not r ≡ true → false ≡ longer_last p k
+  pub last_old : {r : Bool} → r ≡ same_sets p.paths (with_empty (last_path p)) → r ≡ false → false ≡ longer_last p k
   unfolding longer_last
-  last_old e t = stop _ e t
+  last_old e t = rw (sym e ∙ t)
 
-  pub last_new : {r : Bool} → r ≡ same_sets p.paths (with_empty (last_path p)) → not r ≡ false
-      → {s : Bool} → s ≡ same_sets k.paths (with_empty (last_path k)) → not s ≡ true → false ≡ longer_last p k
-  unfolding longer_last
-  last_new e t g h = go_on e t (stop (same (last_path k) (further p k ++ last_path p)) g h ∙ sym (ends_with_empty k (further p k ++ last_path p)))
+  module _ {r : Bool} (e : r ≡ same_sets p.paths (with_empty (last_path p))) (t : r ≡ true) {s : Bool} (g : s ≡ same_sets k.paths (with_empty (last_path k))) where
+    pub last_new : s ≡ false → false ≡ longer_last p k
+    unfolding longer_last
+    last_new h = rw (sym e ∙ t, ends_with_empty k (further p k ++ last_path p), sym g ∙ h)
 
-  pub last_both : {r : Bool} → r ≡ same_sets p.paths (with_empty (last_path p)) → not r ≡ false
-      → {s : Bool} → s ≡ same_sets k.paths (with_empty (last_path k)) → not s ≡ false
-      → {front whole new old : List ℕ} → front ≡ k.target → whole ≡ p.target → new ≡ last_path k → old ≡ last_path p
-      → {b : Bool} → b ≡ same new (take (length whole - length front) (drop (length front) whole) ++ old) → b ≡ longer_last p k
-  unfolding longer_last further
-  last_both e t g h {front} {whole} {new} {old} f w a o q =
-      go_on e t
-      (go_on g h
-      (q ∙ ap (λ (l : List ℕ). same new (l ++ old)) (part_to_end whole (length front)) ∙ rw (f, w, a, o))
-      ∙ sym (ends_with_empty k (drop (length k.target) p.target ++ last_path p)))
+    pub last_both : s ≡ true → {front whole new old : List ℕ} → front ≡ k.target → whole ≡ p.target → new ≡ last_path k → old ≡ last_path p
+        → {b : Bool} → b ≡ same new (take (length whole - length front) (drop (length front) whole) ++ old) → b ≡ longer_last p k
+    unfolding longer_last further
+    last_both h {front} {whole} {new} {old} f w a o {b} q =
+        q ∙ ap (λ (l : List ℕ). same new (l ++ old)) (part_to_end whole (length front)) ∙ parts ∙ sym tested
+      where
+        parts : same new (drop (length front) whole ++ old) ≡ same (last_path k) (drop (length k.target) p.target ++ last_path p)
+        parts = ap₂ same a (ap₂ ◌++◌ (ap₂ (λ (x y : List ℕ). drop (length x) y) f w) o)
+
+        tested : longer_last p k ≡ same (last_path k) (drop (length k.target) p.target ++ last_path p)
+        tested = rw (sym e ∙ t, ends_with_empty k (drop (length k.target) p.target ++ last_path p), sym g ∙ h)
 
 two_paths : (y : ℕ) (r : List ℕ) → [] ∷ (y ∷ r) ∷ [] ≡ with_empty (y ∷ r)
 unfolding with_empty
@@ -169,10 +144,10 @@ module _ (b : Key) {n : ℕ} (e : n ≡ length b.paths) where
       sizes [] q = t (e ∙ sym q ∙ (unfold with_empty in refl))
       sizes (y ∷ x) q = u (e ∙ sym q ∙ (unfold with_empty in refl))
 
-  pub with_empty_other : n ≡ 2 → {l : List ℕ} → l ≡ get_or b.paths 0 [] → (length l ≡ 0 → ⊥) → false ≡ same_sets b.paths (with_empty (last_path b))
+  pub with_empty_other : n ≡ 2 → {l : List ℕ} → l ≡ get_or b.paths 0 [] → (length l ≡ 0 → ⊥) → eqb (length l) 0 ≡ same_sets b.paths (with_empty (last_path b))
   unfolding last_path
   with_empty_other t {l} h u =
-      sym (false_of _ (λ s. u (ap length (h ∙ ap (λ (ps : List (List ℕ)). get_or ps 0 []) (sets-eq _ _ s) ∙ first (get_or b.paths (length b.paths - 1) [])))))
+      ne_eqb (length l) 0 u ∙ sym (false_of _ (λ s. u (ap length (h ∙ ap (λ (ps : List (List ℕ)). get_or ps 0 []) (sets-eq _ _ s) ∙ first (get_or b.paths (length b.paths - 1) [])))))
     where
       first : (x : List ℕ) → get_or (with_empty x) 0 [] ≡ []
       first [] = unfold with_empty in refl
@@ -197,14 +172,10 @@ unfolding with_empty
 with_empty_length [] = omega arith
 with_empty_length (y ∷ x) = omega arith
 
-pub with_empty_some : (b : Key) {r : Bool} → r ≡ same_sets b.paths (with_empty (last_path b)) → not r ≡ false → 0 < length b.paths
+pub with_empty_some : (b : Key) {r : Bool} → r ≡ same_sets b.paths (with_empty (last_path b)) → r ≡ true → 0 < length b.paths
 with_empty_some b e t =
-    let q = ap length (sets-eq b.paths (with_empty (last_path b)) (of_true _ (sym e ∙ not-false _ t))) in
+    let q = ap length (sets-eq b.paths (with_empty (last_path b)) (of_true _ (sym e ∙ t))) in
     omega (arith, with_empty_length (last_path b))
-
-pub last_is : (k : Key) {n : ℕ} → n ≡ length k.paths → {x : List ℕ} → x ≡ get_or k.paths (n - 1) [] → x ≡ last_path k
-unfolding last_path
-last_is k e h = h ∙ ap (λ (m : ℕ). get_or k.paths (m - 1) []) e
 
 pub further_fits : {p k : List ℕ} → Further p k → {front whole : List ℕ} → front ≡ (key_in k).target → whole ≡ (key_in p).target → length front ≤ length whole
 further_fits h f w = omega (arith, h.long, ap length f, ap length w)
@@ -219,17 +190,22 @@ cut_context p k =
     same k.context (join p.context (before_end p.target k.target))
     || starts_any k.target && same k.context (join p.context (before_end p.target k.target ++ (0 ∷ [])))
 
-pub ends_short : (p k : Key) {whole end : List ℕ} → whole ≡ p.target → end ≡ k.target → length whole < length end → false ≡ ends_path p.target k.target
+-- .. by the library's test
+pub ends_lib : (whole end : List ℕ) → ends_with ◌==◌ whole end ≡ ends_path whole end
 unfolding ends_path
-ends_short p k {whole} {end} w f h = rw (sym w, sym f, lt-leb (length end) (length whole) h)
+ends_lib whole end = go (leb (length end) (length whole)) refl
+  where
+    part : List ℕ
+    part = drop (length whole - length end) whole
 
-pub ends_same : (p k : Key) {whole end : List ℕ} → whole ≡ p.target → end ≡ k.target → length end ≤ length whole
-    → {r : Bool} → r ≡ same (take (length whole - (length whole - length end)) (drop (length whole - length end) whole)) end
-    → r ≡ ends_path p.target k.target
-unfolding ends_path
-ends_same p k {whole} {end} w f h q =
-    q ∙ ap (λ (l : List ℕ). same l end) (part_to_end whole (length whole - length end))
-    ∙ rw (sym w, sym f, le-leb (length end) (length whole) h)
+    whole_part : ends_with ◌==◌ whole end ≡ same part end
+    whole_part = same_list end part ∙ same_sym end part
+
+    go : (b : Bool) → leb (length end) (length whole) ≡ b → ends_with ◌==◌ whole end ≡ (b && same part end)
+    go true e = whole_part
+    go false e =
+        whole_part
+        ∙ false_of _ (λ t. let n = ap length (same_eq part end t) in let h = leb-false _ _ e in absurd (omega (arith, length-drop {A = ℕ})))
 
 module _ {p k : List ℕ} (c : Cut p k) where
   pub cut_long : length (key_in k).target ≤ length (key_in p).target
@@ -261,13 +237,13 @@ module _ {p k : List ℕ} (c : Cut p k) where
     unfolding before_end
     first = sym (q ∙ same_sym (join old (take (length whole - length end) whole)) new ∙ (rw (w, f, a, o)))
 
-    pub cut_first : r ≡ true → true ≡ cut_context (key_in p) (key_in k)
+    pub cut_first : r ≡ true → r ≡ cut_context (key_in p) (key_in k)
     unfolding cut_context
-    cut_first t = rw (first ∙ t)
+    cut_first t = t ∙ rw (first ∙ t)
 
-    pub cut_none : r ≡ false → {s : Bool} → s ≡ starts_any end → not s ≡ true → false ≡ cut_context (key_in p) (key_in k)
+    pub cut_none : r ≡ false → {s : Bool} → s ≡ starts_any end → s ≡ false → s ≡ cut_context (key_in p) (key_in k)
     unfolding cut_context
-    cut_none t e h = rw (first ∙ t, sym (e ∙ ap starts_any f) ∙ not-true _ h)
+    cut_none t e h = h ∙ rw (first ∙ t, sym (e ∙ ap starts_any f) ∙ h)
 
     starts_cons : (l : List ℕ) → starts_any l ≡ true → get_or l 0 0 ≡ 0
     unfolding starts_any
@@ -280,11 +256,11 @@ module _ {p k : List ℕ} (c : Cut p k) where
     starts_some [] e = absurd (let z : ◌≡◌ {A = ℕ} 0 1 = cc in omega arith)
     starts_some (s ∷ l) e = omega arith
 
-    pub cut_within : {s : Bool} → s ≡ starts_any end → not s ≡ false
+    pub cut_within : {s : Bool} → s ≡ starts_any end → s ≡ true
         → length whole - length end + 1 ≡ length (take (length whole - length end + 1) whole)
     cut_within e h =
         let m : length whole - length end + 1 ≤ length whole =
-        omega (arith, cut_long, starts_some end (sym e ∙ not-false _ h), ap length w, ap length f) in
+        omega (arith, cut_long, starts_some end (sym e ∙ h), ap length w, ap length f) in
         simp length-take (omega arith)
 
     more_is : starts_any (key_in k).target ≡ true
@@ -299,11 +275,11 @@ module _ {p k : List ℕ} (c : Cut p k) where
         ∙ starts_cons (key_in k).target e in
         rw add-one (take-suc (key_in p).target n 0 h ∙ ap (λ (s : ℕ). take n (key_in p).target ++ (s ∷ [])) d)
 
-    pub cut_second : r ≡ false → {s : Bool} → s ≡ starts_any end → not s ≡ false
+    pub cut_second : r ≡ false → {s : Bool} → s ≡ starts_any end → s ≡ true
         → {b : Bool} → b ≡ same (join old (take (length whole - length end + 1) whole)) new → b ≡ cut_context (key_in p) (key_in k)
     unfolding cut_context
     cut_second t e h g =
-        let st : starts_any (key_in k).target ≡ true = sym (e ∙ ap starts_any f) ∙ not-false _ h in
+        let st : starts_any (key_in k).target ≡ true = sym (e ∙ ap starts_any f) ∙ h in
         g ∙ same_sym (join old (take (length whole - length end + 1) whole)) new ∙ (rw (first ∙ t, st, sym (more_is st), w, f, a, o))
 
 -- rule 9

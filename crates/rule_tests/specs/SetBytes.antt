@@ -1,5 +1,7 @@
 -- What the tests of rules ask of key bodies, and sets as bytes.
-use Rattle.std.specs.Prelude.{ℕ, ◌≤◌, ◌≡◌, Bool, true, T, length}
+use Rattle.std.specs.Prelude.{ℕ, ◌≤◌, ◌≡◌, Bool, true, T, length, ◌==◌}
+use Rattle.std.specs.Cmp.Lexicographic.{pointwise}
+use Rattle.read_record.specs.Library.{same_list}
 use Rattle.std.proofs.Common.{sym, ap, ap₂, ◌∙◌, arith}
 use mathlib.Core.List.{List, [], ◌∷◌, map, flatten}
 use Rattle.meaning.specs.Limits.{in_proof}
@@ -55,8 +57,8 @@ sets_bytes a b ea eb =
     bool_eq _ _ (λ t. eq_sets _ _ (ap set_of (same_eq a b t)))
     (λ t. eq_same _ _ (sym (set_bytes_lem a ea) ∙ ap set_bytes (sets-eq _ _ t) ∙ set_bytes_lem b eb))
 
-pub same_sets_law : {p k : List ℕ} → TwoKeys p k → {new old : List ℕ} → new ≡ set_in k → old ≡ set_in p → {r : Bool} → r ≡ same new old
+pub same_sets_law : {p k : List ℕ} → TwoKeys p k → {new old : List ℕ} → new ≡ set_in k → old ≡ set_in p → {r : Bool} → r ≡ pointwise ◌==◌ new old
     → r ≡ same_sets (key_in k).paths (key_in p).paths
 same_sets_law {p} {k} h n o e =
-    e ∙ ap₂ same n o ∙ sets_bytes (set_in k) (set_in p) (set_holds k h.second) (set_holds p h.first)
+    e ∙ same_list _ _ ∙ ap₂ same n o ∙ sets_bytes (set_in k) (set_in p) (set_holds k h.second) (set_holds p h.first)
     ∙ ap₂ same_sets (paths_are k h.second) (paths_are p h.first)

@@ -1,4 +1,4 @@
-// The rules of inference (document 01, "Rules of inference") on key bodies where they stand: one function for each rule of a premise, equal
+// The rules of inference ("Rules of inference") on key bodies where they stand: one function for each rule of a premise, equal
 // to its test in `theory_rule_tests`. Joins are compared without being built.
 #![tactic(auto)]
 

@@ -1,14 +1,12 @@
-// `salvage PROFILE TREE OUT` (02, request 7): writes what is left of a damaged tree file to OUT and prints the listing, `salvaged` with the number of
-// records dropped, a line for each, and one for each profile key that what is left breaks; or `refused` with number, input and record, `unwritable`,
-// or `unreadable` with the name. Thin over `op_salvage::salvage` and `op_salvage_list`.
+// `salvage PROFILE TREE OUT`: writes what is left of a damaged tree file to OUT and prints the listing, `salvaged` with the number of records dropped, a
+// line for each, and one for each profile key that what is left breaks; or `refused` with number, input and record, `unwritable`, or `unreadable` with
+// the name. Thin over `op_salvage::salvage` and `op_salvage_list`.
 #![tactic(auto)]
 
-use op_answers::Filling;
 use op_salvage::salvage::salvage;
 use op_salvage_list::salvage_block;
 use program_files::{
-    ANSWER_ROOM, PROFILE_READ, TREE_READ, part_read, print, print_refusal, read_argument, unread,
-    word_count, write_argument,
+    ANSWER_ROOM, PROFILE_READ, TREE_READ, read_argument, word_count, write_argument,
 };
 use std::io;
 use std::rt::{Env, Files};
@@ -25,17 +23,16 @@ const BLOCKS: usize = 12;
 // Prints one block; false where there is none.
 fn print_block(rt: &impl Print, profile: &[u8], tree: &[u8], block: usize) -> io::Result<bool> {
     let mut answer = [0u8; ANSWER_ROOM];
-    let filling = salvage_block(profile, tree, block, &mut answer);
-    match filling {
-        Filling::Refused(r) => {
-            print_refusal(rt, r.number, r.input, r.place)?;
-            Ok(false)
-        }
-        Filling::Filled(used) => {
-            if used <= ANSWER_ROOM {
-                print(rt, &answer[..used])?;
+    match salvage_block(profile, tree, block, &mut answer) {
+        Ok(used) => {
+            if let Some(lines) = answer.get(..used) {
+                rt.write_all(lines)?;
             }
             Ok(0 < used)
+        }
+        Err(refusal) => {
+            println!(rt; "{refusal}")?;
+            Ok(false)
         }
     }
 }
@@ -43,7 +40,7 @@ fn print_block(rt: &impl Print, profile: &[u8], tree: &[u8], block: usize) -> io
 fn print_blocks(rt: &impl Print, profile: &[u8], tree: &[u8]) -> io::Result<()> {
     for block in 0..BLOCKS {
         if !print_block(rt, profile, tree, block)? {
-            return Ok(());
+            break;
         }
     }
     Ok(())
@@ -59,45 +56,31 @@ fn write_and_list(
     if write_argument(rt, OUT, left) {
         return print_blocks(rt, profile, tree);
     }
-    print(rt, b"unwritable\n")
+    println!(rt; "unwritable")
 }
 
 fn salvage_files(rt: &(impl Env + Files + Print)) -> io::Result<()> {
     let mut profile = [0u8; PROFILE_READ];
     let mut tree = [0u8; TREE_READ];
     let mut answer = [0u8; ANSWER_ROOM];
-    let first = read_argument(rt, 1, &mut profile)?;
-    if unread(first) {
+    let Some(first) = read_argument(rt, 1, &mut profile)? else {
         return Ok(());
-    }
-    let second = read_argument(rt, 2, &mut tree)?;
-    if unread(second) {
+    };
+    let Some(second) = read_argument(rt, 2, &mut tree)? else {
         return Ok(());
-    }
-    let filling = salvage(
-        part_read(first, &profile),
-        part_read(second, &tree),
-        &mut answer,
-    );
-    match filling {
-        Filling::Refused(r) => print_refusal(rt, r.number, r.input, r.place),
-        Filling::Filled(used) => {
-            if used <= ANSWER_ROOM {
-                return write_and_list(
-                    rt,
-                    &answer[..used],
-                    part_read(first, &profile),
-                    part_read(second, &tree),
-                );
-            }
-            Ok(())
-        }
+    };
+    match salvage(&profile[..first], &tree[..second], &mut answer) {
+        Ok(used) => match answer.get(..used) {
+            Some(left) => write_and_list(rt, left, &profile[..first], &tree[..second]),
+            None => Ok(()),
+        },
+        Err(refusal) => println!(rt; "{refusal}"),
     }
 }
 
 fn main(rt: HostRuntime) -> io::Result<()> {
     if word_count(&rt) != WORDS {
-        return print(&rt, b"usage: salvage PROFILE TREE OUT\n");
+        return println!(rt; "usage: salvage PROFILE TREE OUT");
     }
     salvage_files(&rt)
 }

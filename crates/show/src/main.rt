@@ -3,8 +3,7 @@
 #![tactic(auto)]
 
 use program_files::{
-    PROFILE_READ, PROOF_READ, QUESTION_READ, is_word, part_read, print, read_argument, unread,
-    word_count,
+    PROFILE_READ, PROOF_READ, QUESTION_READ, WORD_ROOM, read_argument, word_argument, word_count,
 };
 use program_profile_text::show_profile;
 use program_proof_text::lines::show_proof;
@@ -20,7 +19,7 @@ const PROFILE_WORDS: usize = 3;
 const EVIDENCE_WORDS: usize = 5;
 
 // What the third file is, and how it is shown: a proof; a tree as lines without the fillers that no mark names, as lines with them, as a graph.
-#[derive(Drop)]
+#[derive(Clone, Copy, Debug, PartialEq, Eq)]
 enum Evidence {
     Proof,
     Tree,
@@ -29,24 +28,17 @@ enum Evidence {
 }
 
 fn usage(rt: &impl Print) -> io::Result<()> {
-    print(
-        rt,
-        b"usage: show profile PROFILE | show proof PROFILE QUESTION PROOF | ",
-    )?;
-    print(
-        rt,
-        b"show tree PROFILE QUESTION TREE | show all PROFILE QUESTION TREE | ",
-    )?;
-    print(rt, b"show dot PROFILE QUESTION TREE\n")
+    print!(rt; "usage: show profile PROFILE | show proof PROFILE QUESTION PROOF | ")?;
+    print!(rt; "show tree PROFILE QUESTION TREE | show all PROFILE QUESTION TREE | ")?;
+    println!(rt; "show dot PROFILE QUESTION TREE")
 }
 
 fn profile(rt: &(impl Env + Files + Print)) -> io::Result<()> {
     let mut profile = [0u8; PROFILE_READ];
-    let first = read_argument(rt, 2, &mut profile)?;
-    if unread(first) {
+    let Some(count) = read_argument(rt, 2, &mut profile)? else {
         return Ok(());
-    }
-    show_profile(rt, part_read(first, &profile))
+    };
+    show_profile(rt, &profile[..count])
 }
 
 fn show(
@@ -69,52 +61,32 @@ fn show_evidence(rt: &(impl Env + Files + Print), evidence: Evidence) -> io::Res
     let mut profile = [0u8; PROFILE_READ];
     let mut question = [0u8; QUESTION_READ];
     let mut third = [0u8; PROOF_READ];
-    let first = read_argument(rt, 2, &mut profile)?;
-    if unread(first) {
+    let Some(first) = read_argument(rt, 2, &mut profile)? else {
         return Ok(());
-    }
-    let second = read_argument(rt, 3, &mut question)?;
-    if unread(second) {
+    };
+    let Some(second) = read_argument(rt, 3, &mut question)? else {
         return Ok(());
-    }
-    let last = read_argument(rt, 4, &mut third)?;
-    if unread(last) {
+    };
+    let Some(last) = read_argument(rt, 4, &mut third)? else {
         return Ok(());
-    }
+    };
     show(
         rt,
-        part_read(first, &profile),
-        part_read(second, &question),
-        part_read(last, &third),
+        &profile[..first],
+        &question[..second],
+        &third[..last],
         evidence,
     )
 }
 
-// The words that take PROFILE, QUESTION and a third file
-fn with_evidence(rt: &(impl Env + Files + Print)) -> io::Result<()> {
-    if is_word(rt, 1, b"proof") {
-        return show_evidence(rt, Evidence::Proof);
-    }
-    if is_word(rt, 1, b"tree") {
-        return show_evidence(rt, Evidence::Tree);
-    }
-    if is_word(rt, 1, b"all") {
-        return show_evidence(rt, Evidence::All);
-    }
-    if is_word(rt, 1, b"dot") {
-        return show_evidence(rt, Evidence::Dot);
-    }
-    usage(rt)
-}
-
 fn main(rt: HostRuntime) -> io::Result<()> {
-    if word_count(&rt) == EVIDENCE_WORDS {
-        return with_evidence(&rt);
+    let mut room = [0u8; WORD_ROOM];
+    match (word_count(&rt), word_argument(&rt, 1, &mut room)) {
+        (PROFILE_WORDS, b"profile") => profile(&rt),
+        (EVIDENCE_WORDS, b"proof") => show_evidence(&rt, Evidence::Proof),
+        (EVIDENCE_WORDS, b"tree") => show_evidence(&rt, Evidence::Tree),
+        (EVIDENCE_WORDS, b"all") => show_evidence(&rt, Evidence::All),
+        (EVIDENCE_WORDS, b"dot") => show_evidence(&rt, Evidence::Dot),
+        _ => usage(&rt),
     }
-    if word_count(&rt) == PROFILE_WORDS {
-        if is_word(&rt, 1, b"profile") {
-            return profile(&rt);
-        }
-    }
-    usage(&rt)
 }

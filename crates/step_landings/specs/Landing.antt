@@ -1,18 +1,21 @@
 -- Landings as the code tests them: a law for each return and each turn.
 use Prim.Native.Nat.{ℕ, suc, ◌+◌, ◌-◌, ◌≤◌, ◌<◌}
-use Rattle.std.specs.Prelude.{◌≡◌, Bool, ◌&&◌, ◌||◌, not, List, eqb, leb, take, drop}
-use Rattle.std.proofs.Math.Path.{refl, sym, ap}
-use Rattle.std.proofs.Common.{ap₂, ◌∙◌, add-one, arith, take_at}
-use Rattle.std.proofs.Math.Bool.{true, false}
-use Rattle.std.proofs.Math.Dec.{T}
-use Rattle.std.proofs.Math.ListN.{length, length-take, length-drop}
+use Rattle.std.specs.Prelude.{◌≡◌, Bool, ◌&&◌, ◌||◌, List, eqb, leb, take, drop, ◌==◌}
+use Rattle.std.proofs.Math.Path.{sym, ap}
+use Rattle.std.proofs.Common.{◌∙◌, add-one, arith, take_at}
+use Rattle.std.proofs.Math.Bool.{true, false, and-true, and-false}
+use Rattle.std.proofs.lemmas.Slice.{between_is}
+use Rattle.std.specs.List.{starts_with}
+use borrow.Author.Rules.{part_to_end}
+use Rattle.std.proofs.Math.ListN.{length}
 use Rattle.std.proofs.Math.Seq.{length-slice}
-use borrow.Author.Tests.{le-leb, lt-leb, eq-eqb, ne_eqb, not-true, not-false}
+use borrow.Author.Tests.{le-leb, lt-leb, eq-eqb, ne_eqb}
 use Rattle.meaning.specs.Lists.{any, is_empty, same, numbers}
 use Rattle.meaning.specs.Keys.{Key}
 use Rattle.meaning.specs.Records.{read_key, key_in, is_some}
 use Rattle.meaning.specs.Pattern.{t_of}
-use Rattle.theory_lists.specs.Bools.{false_of, same_eq}
+use Rattle.read_record.specs.Library.{same_list}
+use Rattle.theory_lists.specs.Bools.{bool_eq, same_eq, eq_same}
 use Rattle.theory_pattern.specs.Spots.{row_of, part, holds_empty, marked_at, lands_on, lands}
 use Rattle.theory_pattern.specs.Rows.{row_length}
 use Rattle.theory_pattern.specs.RowParts.{part_drop}
@@ -50,58 +53,44 @@ pub record OnSpot (body rows : List ℕ) (j k : ℕ) : Type 0 where
   pub branch : j < length (key_in body).paths
   pub within : k ≤ length (row_of (key_in body) j)
 
-pub record KeyOnSpot (body rows key : List ℕ) (j k : ℕ) : Type 0 where
-  pub spot : OnSpot body rows j k
-  pub is_key : is_some (read_key key) ≡ true
-
--- the number of t
-pub chain_end : (asked : Key) {c t : List ℕ} → c ≡ asked.context → t ≡ asked.target → length c + length t ≡ t_of asked
-unfolding t_of
-chain_end asked e q = ap₂ (λ (a b : List ℕ). length a + length b) e q
-
 -- marks
 module _ (asked : Key) (row : List ℕ) (k : ℕ) where
-  pub marked_end : k ≡ length row → true ≡ marked_in asked row k
+  pub marked_end : k ≡ length row → eqb k (length row) ≡ marked_in asked row k
   unfolding marked_in
-  marked_end e = rw (eq-eqb k (length row) e)
+  marked_end e = eq-eqb k (length row) e ∙ sym (rw (eq-eqb k (length row) e))
 
   module _ (n : k ≡ length row → ⊥) {t : ℕ} (m : t ≡ t_of asked) where
-    pub marked_above : k < t → false ≡ marked_in asked row k
+    pub marked_above : k < t → leb t k ≡ marked_in asked row k
     unfolding marked_in
-    marked_above h = rw (ne_eqb k (length row) n, lt-leb (t_of asked) k (omega arith)) (go (holds_empty asked))
-      where
-        go : (b : Bool) → false ≡ (b && false)
-        go true = refl
-        go false = refl
+    marked_above h = lt-leb t k h ∙ rw (ne_eqb k (length row) n, lt-leb (t_of asked) k (omega arith)) (sym (and-false (holds_empty asked)))
 
     pub marked_below : t ≤ k → {r : Bool} → r ≡ any is_empty asked.paths → r ≡ marked_in asked row k
     unfolding marked_in holds_empty
-    marked_below h {r} e = rw (ne_eqb k (length row) n, le-leb (t_of asked) k (omega arith), sym e) (go r)
-      where
-        go : (b : Bool) → b ≡ (b && true)
-        go true = refl
-        go false = refl
+    marked_below h {r} e = rw (ne_eqb k (length row) n, le-leb (t_of asked) k (omega arith), sym e) (sym (and-true r))
 
--- landings on one row
-module _ {body row : List ℕ} {k : ℕ} (o : OnRow body row k) (p : List ℕ) where
-  pub lands_short : length row - k < length p → false ≡ lands_in (key_in body) row k p
-  unfolding lands_in part
-  lands_short h = rw (false_of (same (drop k (take (k + length p) row)) p) other)
-    where
-      other : T (same (drop k (take (k + length p) row)) p) → ⊥
-      other t = omega (arith, ap length (same_eq _ _ t), length-drop k (take (k + length p) row), length-take (k + length p) row)
+pub ruleset marks = (marked_end, marked_above, marked_below)
 
-  module _ (h : length p ≤ length row - k) {r : Bool} (e : r ≡ same (take (k + length p - k) (drop k row)) p) where
-    reads : same (part k (k + length p) row) p ≡ r
-    reads = ap (λ (l : List ℕ). same l p) (sym (part_is k (k + length p) row (omega arith) (let w = o.within in omega arith))) ∙ sym e
+same_sym : (a b : List ℕ) → same a b ≡ same b a
+same_sym a b = bool_eq _ _ (λ t. eq_same b a (sym (same_eq a b t))) (λ t. eq_same a b (sym (same_eq b a t)))
 
-    pub lands_other : not r ≡ true → false ≡ lands_in (key_in body) row k p
-    unfolding lands_in
-    lands_other t = rw (reads ∙ not-true _ t)
+-- landings on one row, by the library's test
+module _ {body row : List ℕ} {k : ℕ} (o : OnRow body row k) (p : List ℕ) {r : Bool} (e : r ≡ starts_with ◌==◌ (take (length row - k) (drop k row)) p) where
+  reads : same (part k (k + length p) row) p ≡ r
+  unfolding part
+  reads =
+      sym (e ∙ same_list p _ ∙ same_sym p _
+      ∙ ap (λ (l : List ℕ). same (take (length p) l) p) (part_to_end row k)
+      ∙ ap (λ (l : List ℕ). same l p) (let z : k + length p - k ≡ length p = omega arith in sym (ap (λ (n : ℕ). take n (drop k row)) z) ∙ between_is row k (k + length p)))
 
-    pub lands_mark : not r ≡ false → {m : Bool} → m ≡ marked_in (key_in body) row (k + length p) → m ≡ lands_in (key_in body) row k p
-    unfolding lands_in
-    lands_mark t q = rw (reads ∙ not-false _ t, q)
+  pub lands_other : r ≡ false → r ≡ lands_in (key_in body) row k p
+  unfolding lands_in
+  lands_other t = t ∙ rw (reads ∙ t)
+
+  pub lands_mark : r ≡ true → {m : Bool} → m ≡ marked_in (key_in body) row (k + length p) → m ≡ lands_in (key_in body) row k p
+  unfolding lands_in
+  lands_mark t q = rw (reads ∙ t, q)
+
+pub ruleset row_landings = (lands_other, lands_mark)
 
 -- some row of the asked key: those that are left pass exactly where all do
 pub record Sweep (f : ℕ → Bool) (m n j : ℕ) : Type 0 where

@@ -6,96 +6,68 @@ ghost use Rattle.meaning.specs.Lists.{every, any, numbers};
 ghost use Rattle.meaning.specs.Records.{read_key, key_in, is_some};
 ghost use Rattle.meaning.specs.Pattern.{t_of};
 ghost use Rattle.theory_pattern.specs.Spots.{lands_on, lands as is_landing};
-ghost use Rattle.step_landings.specs.Landing.{marked_in, lands_in, OnRow, OnChain, OnSpot, KeyOnSpot};
+ghost use Rattle.read_record.specs.Seen.{seen};
+ghost use Rattle.step_landings.specs.Landing.{marked_in, lands_in, OnRow, OnChain, OnSpot};
 
-use read_record::bodies::{after_path, lead_path};
-use read_record::keys::{context, count, holds_empty, paths, target};
-use read_record::names::same_bytes;
-use step_rows::row;
+use read_record::key::Key;
+use read_record::keys::{context, count, holds_empty, target};
+use step_rows::Pattern;
 
 // The number of t: "from the root along C to q, on along T to t".
+#[tactic(auto, unfolding(meaning::specs::Pattern::t_of))]
 pub fn chain_end(asked: &[u8]) -> usize
     requires { is_some (read_key asked.now) ≡ true }
     ensures { result ≡ t_of (key_in asked.now) }
 {
-    let c = context(asked);
-    let t = target(asked);
-    c.len() + t.len()
+    context(asked).len() + target(asked).len()
 }
 
 // "marked: k = |row j|, or S holds e and k ≥ n".
+#[tactic(auto, using(crate::specs::Landing::marks))]
 fn marked(asked: &[u8], symbols: &[u8], k: usize) -> bool
     requires { is_some (read_key asked.now) ≡ true }
     ensures { result ≡ marked_in (key_in asked.now) symbols.now k }
 {
-    if k == symbols.len() {
-        return true;
-    }
-    if k < chain_end(asked) {
-        return false;
-    }
-    holds_empty(asked)
+    k == symbols.len() || chain_end(asked) <= k && holds_empty(asked)
 }
 
 // The key path, read from k on, ends on a mark of this row.
+#[tactic(auto, using(crate::specs::Landing::row_landings))]
 fn lands_in(asked: &[u8], symbols: &[u8], path: &[u8], k: usize) -> bool
     requires { OnRow asked.now symbols.now k }
     ensures { result ≡ lands_in (key_in asked.now) symbols.now k path.now }
 {
-    if symbols.len() - k < path.len() {
-        return false;
-    }
-    let end = k + path.len();
-    if !same_bytes(&symbols[k..end], path) {
-        return false;
-    }
-    marked(asked, symbols, end)
+    symbols[k..].starts_with(path) && marked(asked, symbols, k + path.len())
 }
 
 // From a chain node: on some row.
-fn lands_some(asked: &[u8], rows: &[u8], path: &[u8], k: usize) -> bool
-    requires { OnChain asked.now rows.now k }
-    ensures { result ≡ any (lands_on (key_in asked.now) k path.now) (numbers (length (key_in asked.now).paths) 0) }
+fn lands_some(pattern: &Pattern, path: &[u8], k: usize) -> bool
+    requires { OnChain pattern.now.asked.now pattern.now.rows k }
+    ensures { result ≡ any (lands_on (key_in pattern.now.asked.now) k path.now) (numbers (length (key_in pattern.now.asked.now).paths) 0) }
 {
-    let n = count(asked);
-    let mut j = 0;
-    while j < n {
-        let symbols = row(rows, j);
-        if lands_in(asked, symbols, path, k) {
+    for j in 0..count(pattern.asked) {
+        if lands_in(pattern.asked, pattern.row(j), path, k) {
             return true;
         }
-        j += 1;
     }
     false
 }
 
 // "for some j' (j' = j where k > n)".
-fn lands(asked: &[u8], rows: &[u8], path: &[u8], j: usize, k: usize) -> bool
-    requires { OnSpot asked.now rows.now j k }
-    ensures { result ≡ is_landing (key_in asked.now) j k path.now }
+fn lands(pattern: &Pattern, path: &[u8], j: usize, k: usize) -> bool
+    requires { OnSpot pattern.now.asked.now pattern.now.rows j k }
+    ensures { result ≡ is_landing (key_in pattern.now.asked.now) j k path.now }
 {
-    if k <= chain_end(asked) {
-        return lands_some(asked, rows, path, k);
+    if k <= chain_end(pattern.asked) {
+        return lands_some(pattern, path, k);
     }
-    let symbols = row(rows, j);
-    lands_in(asked, symbols, path, k)
+    lands_in(pattern.asked, pattern.row(j), path, k)
 }
 
 // Every key path of the profile key lands.
-pub fn all_land(asked: &[u8], rows: &[u8], key: &[u8], j: usize, k: usize) -> bool
-    requires { KeyOnSpot asked.now rows.now key.now j k }
-    ensures { result ≡ every (is_landing (key_in asked.now) j k) (key_in key.now).paths }
+pub fn all_land(pattern: &Pattern, key: &Key, j: usize, k: usize) -> bool
+    requires { OnSpot pattern.now.asked.now pattern.now.rows j k }
+    ensures { result ≡ every (is_landing (key_in pattern.now.asked.now) j k) (seen key.now).paths }
 {
-    let n = count(key);
-    let mut rest = paths(key);
-    let mut i = 0;
-    while i < n {
-        if !lands(asked, rows, lead_path(rest), j, k) {
-            return false;
-        }
-        let next = after_path(rest);
-        rest = next;
-        i += 1;
-    }
-    true
+    key.paths().all(|path| lands(pattern, path, j, k))
 }

@@ -1,6 +1,6 @@
 -- Runs written into a list, each behind what stands there: a law for each store and each call.
-use Rattle.std.specs.Prelude.{ℕ, suc, ◌+◌, ◌≤◌, ◌<◌, ◌≡◌, refl, List, [], ◌∷◌, ◌++◌, length, get_or, set, take, drop}
-use Rattle.std.proofs.Common.{sym, ap, ◌∙◌, append_assoc, append-nil, add-one, add-zero, arith, length-append, length-set}
+use Rattle.std.specs.Prelude.{ℕ, ◌+◌, ◌≤◌, ◌<◌, ◌≡◌, List, [], ◌∷◌, ◌++◌, length, set, take, drop}
+use Rattle.std.proofs.Common.{sym, ap, ◌∙◌, append_assoc, add-one, arith, length-append, length-set}
 use lib.Seq.{take-suc, take-suc-set, take-take, take_all, slice, drop_at, length-take-le}
 
 -- from a place on the run is written, and what stands before it is kept
@@ -12,38 +12,6 @@ pub record Copied (old : List ℕ) (at : ℕ) (run new : List ℕ) : Type 0 wher
 pub record Room (rows : List ℕ) (at : ℕ) (run : List ℕ) : Type 0 where
   pub size : length rows ≡ 100
   pub fits : at + length run ≤ 100
-
--- so many symbols of the run are written
-pub record Copying (old : List ℕ) (at : ℕ) (run : List ℕ) (i : ℕ) (new : List ℕ) : Type 0 where
-  pub size : length new ≡ length old
-  pub within : i ≤ length run
-  pub written : take (at + i) new ≡ take at old ++ take i run
-
-pub copying_start : (old : List ℕ) (at : ℕ) (run : List ℕ) → Copying old at run 0 old
-copying_start old at run = record { size = refl; within = omega arith; written = rw (add-zero at) (sym (append-nil (take at old))) }
-
-pub copying_more : {old : List ℕ} {at : ℕ} {run : List ℕ} {i : ℕ} {new : List ℕ} → Copying old at run i new → Room old at run → i < length run
-    → Copying old at run (i + 1) (set new (at + i) (get_or run i 0))
-copying_more {old} {at} {run} {i} {new} c r k =
-    let h : at + i < length new = (let s = c.size in let f = r.size in let g = r.fits in omega arith) in
-    record {
-      size = length-set new (at + i) (get_or run i 0) ∙ c.size;
-      within = omega arith;
-      written =
-          let n : at + (i + 1) ≡ suc (at + i) = omega arith in
-          let m : i + 1 ≡ suc i = add-one i in
-          rw (n, m) (take-suc-set new (at + i) (get_or run i 0) h ∙ ap (λ (l : List ℕ). l ++ (get_or run i 0 ∷ [])) c.written
-          ∙ append_assoc (take at old) (take i run) (get_or run i 0 ∷ []) ∙ ap (λ (l : List ℕ). take at old ++ l) (sym (take-suc run i 0 k)));
-    }
-
-pub copying_end : {old : List ℕ} {at : ℕ} {run : List ℕ} {i : ℕ} {new : List ℕ} → Copying old at run i new → length run ≤ i
-    → Copied old at run new
-copying_end {old} {at} {run} {i} {new} c k =
-    let e : i ≡ length run = (let h = c.within in omega arith) in
-    record {
-      size = c.size;
-      written = ap (λ (n : ℕ). take (at + n) new) (sym e) ∙ c.written ∙ ap (λ (l : List ℕ). take at old ++ l) (take_all i run k);
-    }
 
 -- one byte
 pub copied_one : (old : List ℕ) (at v : ℕ) → at < length old → Copied old at (v ∷ []) (set old at v)

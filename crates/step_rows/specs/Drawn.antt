@@ -1,23 +1,21 @@
 -- The asked key's rows in a list of bytes, row j from byte 25 j on: what drawing them asks and what a reader of a row needs.
-use Rattle.std.specs.Prelude.{ℕ, suc, ◌+◌, ◌*◌, ◌-◌, ◌≤◌, ◌<◌, ◌≡◌, refl, true, List, [], ◌∷◌, ◌++◌, get_or, set, take, drop}
-use Rattle.std.proofs.Common.{sym, ap₂, subst, ◌∙◌, arith, length-append, take-append-drop, length-take-le}
+use Rattle.std.specs.Prelude.{ℕ, suc, ◌+◌, ◌*◌, ◌≤◌, ◌<◌, ◌≡◌, refl, true, List, [], ◌∷◌, ◌++◌, get_or, set, take, drop}
+use Rattle.std.proofs.Common.{sym, ap₂, subst, ◌∙◌, arith, length-append, length-drop, drop-cons, add-one, take-append-drop, length-take-le}
 use Rattle.std.proofs.Math.Path.{ap}
 use Rattle.std.proofs.Math.ListN.{length}
 use Rattle.std.proofs.Math.Seq.{slice}
 use Rattle.std.proofs.lemmas.List.{drop-append-le}
-use borrow.Author.Rules.{part_to_end}
 use borrow.Author.Count.{below_more}
 use Rattle.meaning.specs.Keys.{Key}
 use Rattle.meaning.specs.Records.{read_key, key_in, is_some, path_bytes}
 use Rattle.meaning.specs.Pattern.{t_of}
 use Rattle.theory_pattern.specs.Spots.{chain_of, branch_of, row_of}
 use Rattle.theory_pattern.specs.Rows.{row_length}
-use Rattle.read_record.specs.BodyParts.{holds_path, lead_path, after_path}
-use Rattle.read_record.specs.KeyPaths.{AtPath, at_holds, at_lead, at_next}
+use Rattle.read_record.specs.BodyParts.{holds_path, lead_path}
 use Rattle.read_record.specs.PathBytes.{holds_front as read-holds, lead_front as read-lead}
 use Rattle.step_rows.specs.Copies.{Copied, Room, copied_one, copied_then, copied_before, copied_there}
 
--- 01: "a path of 8 symbols and 4 key paths in profile and question"
+-- "a path of 8 symbols and 4 key paths in profile and question"
 pub record KeySizes (body : List ℕ) : Type 0 where
   pub is_key : is_some (read_key body) ≡ true
   pub context : length (key_in body).context ≤ 8
@@ -42,15 +40,6 @@ row_in rows j = lead_path (drop (25 * j) rows)
 pub record HasRow (rows : List ℕ) (j : ℕ) : Type 0 where
   pub within : 25 * j ≤ length rows
   pub holds : holds_path (drop (25 * j) rows) ≡ true
-
--- .. as the code's part of the bytes has it
-pub row_holds : (rows : List ℕ) (j : ℕ) → HasRow rows j → holds_path (take (length rows - 25 * j) (drop (25 * j) rows)) ≡ true
-row_holds rows j h = rw (part_to_end rows (25 * j)) h.holds
-
-pub row_read : (rows : List ℕ) (j : ℕ) → HasRow rows j → {r : List ℕ} → r ≡ lead_path (take (length rows - 25 * j) (drop (25 * j) rows))
-    → r ≡ row_in rows j
-unfolding row_in
-row_read rows j h e = e ∙ ap lead_path (part_to_end rows (25 * j))
 
 -- the rows of the asked key are drawn
 pub record IsRow (asked : Key) (rows : List ℕ) (j : ℕ) : Type 0 where
@@ -90,90 +79,95 @@ stands_row asked rows j size few s =
       short = s.short;
     }
 
--- the rows are drawn from the first on
-pub record Drawing (body : List ℕ) (n j : ℕ) (rest rows : List ℕ) : Type 0 where
+-- the rows are drawn from the first on, and these key paths are left
+pub record Drawing (body : List ℕ) (left : List (List ℕ)) (j : ℕ) (rows : List ℕ) : Type 0 where
   pub asked : KeySizes body
-  pub at : AtPath (key_in body).paths j rest
-  pub number : n ≡ length (key_in body).paths
-  pub within : j ≤ n
+  pub left_is : left ≡ drop j (key_in body).paths
   pub size : length rows ≡ 100
   pub drawn : (i : ℕ) → i < j → Stands (key_in body) rows i
 
-pub drawing_start : (body : List ℕ) {n : ℕ} {rest rows : List ℕ} → KeySizes body → n ≡ length (key_in body).paths → AtPath (key_in body).paths 0 rest
-    → length rows ≡ 100 → Drawing body n 0 rest rows
-drawing_start body a e p s =
-    record { asked = a; at = p; number = e; within = omega arith; size = s; drawn = λ i h. absurd (omega arith) }
+pub drawing_start : {body : List ℕ} {left : List (List ℕ)} {j : ℕ} {rows : List ℕ} → KeySizes body → left ≡ (key_in body).paths → j ≡ 0
+    → length rows ≡ 100 → Drawing body left j rows
+drawing_start a e z s = record { asked = a; left_is = rw z e; size = s; drawn = λ i h. absurd (omega arith) }
 
-module _ {body : List ℕ} {n j : ℕ} {rest rows : List ℕ} (d : Drawing body n j rest rows) (h : j < n) where
+module _ {body : List ℕ} {left : List (List ℕ)} {j : ℕ} {rows : List ℕ} (d : Drawing body left j rows) {path : List ℕ} {rest : List (List ℕ)}
+    (e : left ≡ path ∷ rest) where
   here : j < length (key_in body).paths
-  here = let e = d.number in omega arith
+  here = omega (arith, length-drop j (key_in body).paths, ap length (sym d.left_is ∙ e))
 
-  pub drawing_holds : holds_path rest ≡ true
-  drawing_holds = at_holds d.at here
+  split : path ∷ rest ≡ get_or (key_in body).paths j [] ∷ drop (suc j) (key_in body).paths
+  split = sym e ∙ d.left_is ∙ drop-cons (key_in body).paths j [] here
 
-  module _ {path : List ℕ} (p : path ≡ lead_path rest) where
-    is_branch : path ≡ branch_of (key_in body) j
-    unfolding branch_of
-    is_branch = p ∙ at_lead d.at here
+  is_branch : path ≡ branch_of (key_in body) j
+  unfolding branch_of
+  is_branch = let q = split in cc
 
-    is_short : length path ≤ 8
-    is_short = let e : path ≡ get_or (key_in body).paths j [] = p ∙ at_lead d.at here in omega (arith, d.asked.short j here, ap length e)
+  is_short : length path ≤ 8
+  is_short = let q : path ≡ get_or (key_in body).paths j [] = (let q = split in cc) in omega (arith, d.asked.short j here, ap length q)
 
-    pub drawing_writes : WritesRow rows body path j
-    drawing_writes =
-        record {
-          size = d.size;
-          is_key = d.asked.is_key;
-          context = d.asked.context;
-          target = d.asked.target;
-          short_path = is_short;
-          few = let f = d.asked.few in omega (arith, here);
-        }
+  few : j < 4
+  few = let f = d.asked.few in omega (arith, here)
 
-    row_short : length (row_of (key_in body) j) ≤ 24
-    unfolding t_of
-    row_short =
-        omega (arith, row_length (key_in body) j, ap length is_branch, is_short, d.asked.context, d.asked.target)
+  pub drawing_writes : {k : ℕ} → k ≡ j → WritesRow rows body path k
+  drawing_writes q =
+      record {
+        size = d.size;
+        is_key = d.asked.is_key;
+        context = d.asked.context;
+        target = d.asked.target;
+        short_path = is_short;
+        few = omega (arith, few);
+      }
 
-    pub drawing_more : {new : List ℕ} → Copied rows (25 * j) (path_bytes (chain_of (key_in body) ++ path)) new → {next : List ℕ}
-        → next ≡ after_path rest → Drawing body n (j + 1) next new
-    unfolding row_of
-    drawing_more {new} c a =
-        record {
-          asked = d.asked;
-          at = at_next d.at here a;
-          number = d.number;
-          within = omega arith;
-          size = c.size ∙ d.size;
-          drawn = below_more _ j (λ i k. kept i k (d.drawn i k)) last;
-        }
-      where
-        few : j < 4
-        few = let f = d.asked.few in omega (arith, here)
+  row_short : length (row_of (key_in body) j) ≤ 24
+  unfolding t_of
+  row_short =
+      omega (arith, row_length (key_in body) j, ap length is_branch, is_short, d.asked.context, d.asked.target)
 
-        room : 25 * j ≤ length rows
-        room = let s = d.size in omega (arith, few)
+  pub drawing_more : {k : ℕ} → k ≡ j → {new : List ℕ} → Copied rows (25 * k) (path_bytes (chain_of (key_in body) ++ path)) new → {next : ℕ} → next ≡ j + 1
+      → Drawing body rest next new
+  unfolding row_of
+  drawing_more {k} q {new} c {next} n =
+      rw n
+      (record {
+        asked = d.asked;
+        left_is = rw add-one (let q = split in cc);
+        size = copy.size ∙ d.size;
+        drawn = below_more _ j (λ i k. kept i k (d.drawn i k)) last;
+      })
+    where
+      copy : Copied rows (25 * j) (path_bytes (chain_of (key_in body) ++ path)) new
+      copy = subst (λ (m : ℕ). Copied rows (25 * m) (path_bytes (chain_of (key_in body) ++ path)) new) q c
 
-        e : path_bytes (chain_of (key_in body) ++ path) ≡ path_bytes (row_of (key_in body) j)
-        e = ap (λ (q : List ℕ). path_bytes (chain_of (key_in body) ++ q)) is_branch
+      room : 25 * j ≤ length rows
+      room = let s = d.size in omega (arith, few)
 
-        last : Stands (key_in body) new j
-        last = record { written = subst (λ (w : List ℕ). slice (25 * j) (25 * j + length w) new ≡ w) e (copied_there c room); short = row_short }
+      same_row : path_bytes (chain_of (key_in body) ++ path) ≡ path_bytes (row_of (key_in body) j)
+      same_row = ap (λ (q : List ℕ). path_bytes (chain_of (key_in body) ++ q)) is_branch
 
-        kept : (i : ℕ) → i < j → Stands (key_in body) rows i → Stands (key_in body) new i
-        kept i k s =
-            record {
-              written =
-                  ap (drop (25 * i)) (copied_before c room (25 * i + length (path_bytes (row_of (key_in body) i))) (let b = bytes_length (row_of (key_in body) i) in let q = s.short in omega arith))
-                  ∙ s.written;
-              short = s.short;
-            }
+      last : Stands (key_in body) new j
+      last = record { written = subst (λ (w : List ℕ). slice (25 * j) (25 * j + length w) new ≡ w) same_row (copied_there copy room); short = row_short }
 
-pub drawing_end : {body : List ℕ} {n j : ℕ} {rest rows : List ℕ} → Drawing body n j rest rows → n ≤ j → Drawn (key_in body) rows
-drawing_end {body} {n} {j} {rest} {rows} d h =
-    let e = d.number in
+      kept : (i : ℕ) → i < j → Stands (key_in body) rows i → Stands (key_in body) new i
+      kept i k s =
+          record {
+            written =
+                ap (drop (25 * i)) (copied_before copy room (25 * i + length (path_bytes (row_of (key_in body) i))) (let b = bytes_length (row_of (key_in body) i) in let q = s.short in omega arith))
+                ∙ s.written;
+            short = s.short;
+          }
+
+pub drawing_end : {body : List ℕ} {left : List (List ℕ)} {j : ℕ} {rows : List ℕ} → Drawing body left j rows → left ≡ [] → Drawn (key_in body) rows
+drawing_end {body} {left} {j} {rows} d e =
     let f = d.asked.few in
-    record { size = d.size; few = f; drawn = λ i k. stands_row (key_in body) rows i d.size (omega arith) (d.drawn i (omega arith)) }
+    record {
+      size = d.size;
+      few = f;
+      drawn =
+          λ i k.
+          stands_row (key_in body) rows i d.size (omega arith)
+          (d.drawn i (omega (arith, length-drop j (key_in body).paths, ap length (sym d.left_is ∙ e))));
+    }
 
 -- a row from its length, C, T and the key path
 pub row_written : {old : List ℕ} {at : ℕ} {c t path one two three four : List ℕ} (asked : Key) → c ≡ asked.context → t ≡ asked.target

@@ -1,4 +1,4 @@
-// ARGUMENT §4: "The pattern of 01 needs no tree in memory. Write row j = C ++ T ++ P_j". The asked key's rows, one for each of its key
+// ARGUMENT §4: the pattern "needs no tree in memory. Write row j = C ++ T ++ P_j". The asked key's rows, one for each of its key
 // paths, each as "length and symbols", so that a row is read as a path is read in a key body.
 #![tactic(auto)]
 
@@ -8,8 +8,9 @@ ghost use Rattle.theory_pattern.specs.Spots.{chain_of};
 ghost use Rattle.step_rows.specs.Copies.{Copied, Room};
 ghost use Rattle.step_rows.specs.Drawn.{KeySizes, WritesRow, HasRow, row_in, Drawn};
 
-use read_record::bodies::{after_path, lead_path};
-use read_record::keys::{context, count, paths, target};
+use read_record::bodies::lead_path;
+use read_record::key::Key;
+use read_record::keys::{context, target};
 
 // A row has C, T and a key path, of 8 symbols each, behind its length; a question has at most 4 key paths.
 pub const ROW_BYTES: usize = 25;
@@ -21,11 +22,7 @@ fn copy(rows: &mut [u8; ROWS_BYTES], at: usize, run: &[u8])
     requires { Room rows.old at run.now }
     ensures { Copied rows.old at run.now rows.new }
 {
-    let mut i = 0;
-    while i < run.len() {
-        rows[at + i] = run[i];
-        i += 1;
-    }
+    rows[at..at + run.len()].copy_from_slice(run);
 }
 
 // Row j, whose key path is given.
@@ -43,30 +40,33 @@ fn write_row(rows: &mut [u8; ROWS_BYTES], asked: &[u8], path: &[u8], j: usize)
     copy(rows, at + 1 + chain, path);
 }
 
-// The rows of the asked key.
-pub fn draw(asked: &[u8]) -> [u8; ROWS_BYTES]
-    requires { KeySizes asked.now }
-    ensures { Drawn (key_in asked.now) result }
-{
-    let mut rows = [0u8; ROWS_BYTES];
-    let n = count(asked);
-    let mut rest = paths(asked);
-    let mut j = 0;
-    while j < n {
-        let path = lead_path(rest);
-        write_row(&mut rows, asked, path, j);
-        let next = after_path(rest);
-        rest = next;
-        j += 1;
-    }
-    rows
+// The asked key and its rows: what a search for steps reads at every spot.
+#[derive(Clone, Copy, Debug, PartialEq, Eq)]
+pub struct Pattern<'a> {
+    pub asked: &'a [u8],
+    pub rows: [u8; ROWS_BYTES],
 }
 
-// Row j, where it stands.
-pub fn row(rows: &[u8], j: usize) -> &[u8]
-    requires { HasRow rows.now j }
-    ensures { result.now ≡ row_in rows.now j }
+// The pattern of a question's key.
+pub fn draw(asked: &[u8]) -> Pattern<'_>
+    requires { KeySizes asked.now }
+    ensures asks { result.asked ≡ asked.entry }
+    ensures draws { Drawn (key_in asked.now) result.rows }
 {
-    let at = ROW_BYTES * j;
-    lead_path(&rows[at..])
+    let mut rows = [0u8; ROWS_BYTES];
+    for (j, path) in Key::new(asked).paths().enumerate() {
+        write_row(&mut rows, asked, path, j);
+    }
+    Pattern { asked, rows }
+}
+
+impl<'a> Pattern<'a> {
+    // Row j, where it stands.
+    #[tactic(auto, unfolding(crate::specs::Drawn::row_in))]
+    pub fn row(&self, j: usize) -> &[u8]
+        requires { HasRow self.now.rows j }
+        ensures { result.now ≡ row_in self.now.rows j }
+    {
+        lead_path(&self.rows[ROW_BYTES * j..])
+    }
 }

@@ -27,10 +27,6 @@ pub record BelowT (body rows : List ℕ) (u : ℕ) : Type 0 where
   pub some : 1 ≤ length (key_in body).paths
   pub above : u < t_of (key_in body)
 
-pub record OfKey (body rows key : List ℕ) (u : ℕ) : Type 0 where
-  pub ready : BelowT body rows u
-  pub is_key : is_some (read_key key) ≡ true
-
 -- t is at most 16 and so u is small
 pub ready_small : {body rows : List ℕ} {u : ℕ} → BelowT body rows u → t_of (key_in body) ≤ 24
 ready_small {body} r = omega (arith, (r.drawn.drawn 0 r.some).short, row_length (key_in body) 0)
@@ -61,35 +57,34 @@ sweeping_start asked s u c d =
       none = λ x a. absurd (omega arith);
     }
 
-module _ {body rows key : List ℕ} {u : ℕ} (o : OfKey body rows key u) {below n j from : ℕ} (s : Sweeping (key_in body) (key_in key) u below n j from) where
-  pub sweeping_branch : j < n → OnBranch body rows key j from u
+module _ {body rows : List ℕ} {s : Key} {u : ℕ} (o : BelowT body rows u) {below n j from : ℕ} (w : Sweeping (key_in body) s u below n j from) where
+  pub sweeping_branch : j < n → OnBranch body rows j from u
   sweeping_branch h =
       record {
-        is_asked = o.ready.is_asked;
-        drawn = o.ready.drawn;
-        is_key = o.is_key;
-        branch = omega (arith, s.number);
-        above = o.ready.above;
-        after = s.after;
+        is_asked = o.is_asked;
+        drawn = o.drawn;
+        branch = omega (arith, w.number);
+        above = o.above;
+        after = w.after;
       }
 
-  pub sweeping_next : j < n → NoneOn (key_in body) (key_in key) u j from → Sweeping (key_in body) (key_in key) u below n (j + 1) below
+  pub sweeping_next : j < n → NoneOn (key_in body) s u j from → Sweeping (key_in body) s u below n (j + 1) below
   sweeping_next h m =
       record {
-        number = s.number;
+        number = w.number;
         within = omega arith;
-        bottom = s.bottom;
-        after = omega (arith, s.bottom, o.ready.above);
+        bottom = w.bottom;
+        after = omega (arith, w.bottom, o.above);
         starts = λ k a b. go k b (less_or (t_of (key_in body)) k);
-        none = below_more _ j s.none (record { none = λ k a b d. m.none k (s.starts k a b) d });
+        none = below_more _ j w.none (record { none = λ k a b d. m.none k (w.starts k a b) d });
       }
     where
       go : (k : ℕ) → (k ≤ t_of (key_in body) → j + 1 ≡ 0) → (t_of (key_in body) < k) ⊎ (k ≤ t_of (key_in body)) → below ≤ k
-      go k b (inl l) = omega (arith, s.bottom)
+      go k b (inl l) = omega (arith, w.bottom)
       go k b (inr l) = absurd (omega (arith, b l))
 
-  pub sweeping_done : n ≤ j → NoneOf (key_in body) (key_in key) u
-  sweeping_done h = record { none = λ x a. s.none x (omega (arith, s.number)) }
+  pub sweeping_done : n ≤ j → NoneOf (key_in body) s u
+  sweeping_done h = record { none = λ x a. w.none x (omega (arith, w.number)) }
 
 -- the profile's keys
 unfoldable pub step_of : Taken → Step
@@ -136,33 +131,35 @@ module _ {part : List ℕ} {keys : ℕ} {body rows : List ℕ} {u : ℕ} (o : Of
     unfolding record_body
     body_is = ap (λ (n : ℕ). take (n - 4) (drop 4 rest)) e
 
-    key_is : key_in (take (end - 4) (drop 4 rest)) ≡ key_in (record_body (records_from number part))
-    key_is = ap key_in (body_is ∙ ap record_body w.here)
+    pub walking_shape : is_some (read_key (take (end - 4) (drop 4 rest))) ≡ true
+    walking_shape = ap (λ (l : List ℕ). is_some (read_key l)) body_is ∙ key_shape stands
 
-    pub walking_key : OfKey body rows (take (end - 4) (drop 4 rest)) u
-    walking_key = record { ready = o.ready; is_key = ap (λ (l : List ℕ). is_some (read_key l)) body_is ∙ key_shape stands }
+    -- the key in the record, by its bytes
+    module _ {bytes : List ℕ} (b : bytes ≡ take (end - 4) (drop 4 rest)) where
+      key_is : key_in bytes ≡ key_in (record_body (records_from number part))
+      key_is = ap key_in (b ∙ body_is ∙ ap record_body w.here)
 
-    pub walking_hit : {t : Taken} → Hit (key_in body) (key_in (take (end - 4) (drop 4 rest))) number u t → HitKeys part keys body u t
-    unfolding step_of
-    walking_hit {t} f =
-        record { firing = fires_says (keys_from keys part) (key_in body) (step_of t) test; node = f.node; below = f.below }
-      where
-        test : T (fires (keys_from keys part) (key_in body) (step_of t))
-        test =
-            subst T (sym (fires_key part keys (key_in body) (step_of t) (omega (arith, f.key))))
-            (subst (λ (s : Key). T (fires_by (key_in body) s t.node t.branch t.spot))
-            (key_is ∙ ap (λ (n : ℕ). key_in (record_body (records_from n part))) (sym f.key)) f.firing)
+      pub walking_hit : {t : Taken} → Hit (key_in body) (key_in bytes) number u t → HitKeys part keys body u t
+      unfolding step_of
+      walking_hit {t} f =
+          record { firing = fires_says (keys_from keys part) (key_in body) (step_of t) test; node = f.node; below = f.below }
+        where
+          test : T (fires (keys_from keys part) (key_in body) (step_of t))
+          test =
+              subst T (sym (fires_key part keys (key_in body) (step_of t) (omega (arith, f.key))))
+              (subst (λ (s : Key). T (fires_by (key_in body) s t.node t.branch t.spot))
+              (key_is ∙ ap (λ (n : ℕ). key_in (record_body (records_from n part))) (sym f.key)) f.firing)
 
-    pub walking_next : NoneOf (key_in body) (key_in (take (end - 4) (drop 4 rest))) u → {next : List ℕ} → next ≡ take (length rest - end) (drop end rest)
-        → Walking part keys body u (number + 1) next
-    walking_next m q =
-        record {
-          here =
-              q ∙ part_to_end rest end ∙ ap (λ (n : ℕ). drop n rest) e ∙ ap (λ (l : List ℕ). drop (record_length l) l) w.here
-              ∙ sym (records_next number part) ∙ ap (λ (n : ℕ). records_from n part) (omega arith);
-          within = omega arith;
-          none = below_more _ number w.none (subst (λ (s : Key). NoneOf (key_in body) s u) key_is m);
-        }
+      pub walking_next : NoneOf (key_in body) (key_in bytes) u → {next : List ℕ} → next ≡ take (length rest - end) (drop end rest)
+          → Walking part keys body u (number + 1) next
+      walking_next m q =
+          record {
+            here =
+                q ∙ part_to_end rest end ∙ ap (λ (n : ℕ). drop n rest) e ∙ ap (λ (l : List ℕ). drop (record_length l) l) w.here
+                ∙ sym (records_next number part) ∙ ap (λ (n : ℕ). records_from n part) (omega arith);
+            within = omega arith;
+            none = below_more _ number w.none (subst (λ (s : Key). NoneOf (key_in body) s u) key_is m);
+          }
 
   pub walking_done : keys ≤ number → NoneLeft part keys body u
   walking_done h =

@@ -1,5 +1,5 @@
 // ARGUMENT §4: "Leads to q, computed downwards". The steps that profile keys let the asked key's pattern take, over its rows of symbols,
-// and the u of 01 where they end.
+// and the u where they end.
 #![tactic(auto)]
 
 pub mod firing;

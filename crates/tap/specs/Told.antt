@@ -1,13 +1,14 @@
 -- One law for each `return` of a call.
-use Rattle.std.specs.Prelude.{ℕ, ◌<◌, ◌≤◌, ◌≡◌, List, [], ◌++◌, length, drop}
+use Rattle.std.specs.Prelude.{ℕ, ◌<◌, ◌≤◌, ◌≡◌, Result, List, [], ◌++◌, length, drop}
 use Rattle.std.proofs.Math.Path.{refl}
 use Rattle.std.proofs.Common.{sym, ◌∙◌, ap, ap₂}
 use Rattle.meaning.specs.Operations.{Answer, Decides, ChecksProof, ChecksCounterexample}
 use Rattle.meaning.specs.Calls.{Called, Calls, DecideCall, ProofCall, CounterexampleCall, details, detail_bytes}
 use Rattle.meaning.specs.Calls.Calls.{short_detail, told}
-use Rattle.op_answers.specs.declared.Checking.{Checking}
-use Rattle.op_answers.specs.declared.Countering.{Countering}
-use Rattle.op_answers.specs.declared.Deciding.{Deciding}
+use Rattle.op_answers.specs.declared.Refusal.{Refusal}
+use Rattle.op_answers.specs.declared.Witness.{Witness}
+use Rattle.op_answers.specs.declared.Countered.{Countered}
+use Rattle.op_answers.specs.declared.Decision.{Decision}
 use Rattle.op_answers.specs.Cases.{deciding_answer, checking_answer, countering_answer, CounteringPadded}
 use Rattle.tap.specs.declared.details.Fields.{Fields}
 use Rattle.tap.specs.Fields.{deciding_fields, checking_fields, countering_fields, field_bytes, Put, Says, deciding_says, checking_says, countering_says}
@@ -45,17 +46,17 @@ module _ (profile question detail : List ℕ) where
   counterexample_short tree h = short_detail h refl
 
   module _ {end : List ℕ} {returned : ℕ} {f : Fields} (room : detail_bytes ≤ length detail) where
-    pub decide_told : (before after : List ℕ) (a : Deciding) → Decides profile question before (deciding_answer a after) → f ≡ deciding_fields a
+    pub decide_told : (before after : List ℕ) (a : Result Decision Refusal) → Decides profile question before (deciding_answer a after) → f ≡ deciding_fields a
         → Put f detail end returned → DecideCall profile question before detail (record { returned = returned; detail = end; buffer = after })
     unfolding DecideCall
     decide_told before after a met e p = called_as (Decides profile question before) (deciding_answer a after) room met e (deciding_says a after) p
 
-    pub proof_told : (proof : List ℕ) (a : Checking) → ChecksProof profile question proof (checking_answer a) → f ≡ checking_fields a
+    pub proof_told : (proof : List ℕ) (a : Result Unit Refusal) → ChecksProof profile question proof (checking_answer a) → f ≡ checking_fields a
         → Put f detail end returned → ProofCall profile question proof detail (record { returned = returned; detail = end; buffer = [] })
     unfolding ProofCall
     proof_told proof a met e p = called_as (ChecksProof profile question proof) (checking_answer a) room met e (checking_says a) p
 
-    pub counterexample_told : (tree : List ℕ) (a : Countering) → ChecksCounterexample profile question tree (countering_answer a) × CounteringPadded a
+    pub counterexample_told : (tree : List ℕ) (a : Result Witness Countered) → ChecksCounterexample profile question tree (countering_answer a) × CounteringPadded a
         → f ≡ countering_fields a → Put f detail end returned
         → CounterexampleCall profile question tree detail (record { returned = returned; detail = end; buffer = [] })
     unfolding CounterexampleCall

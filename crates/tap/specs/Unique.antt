@@ -29,7 +29,7 @@ pub counterexample_call_unique : (profile question tree detail : List ℕ) (x y 
 unfolding CounterexampleCall
 counterexample_call_unique profile question tree detail = calls_unique (checks_counterexample_unique profile question tree) detail []
 
--- The one exception of document 01, "which accepted proof is written": both calls say implied, with a proof that the check accepts
+-- The one exception, "which accepted proof is written": both calls say implied, with a proof that the check accepts
 pub record BothProved (profile question buffer detail : List ℕ) (x y : Called) : Type 0 where
   pub first : Answer
   pub second : Answer

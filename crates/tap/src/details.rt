@@ -1,28 +1,35 @@
-// The first 16 bytes of the detail slice: document 02, request 14.
+// The first 16 bytes of the detail slice.
 ghost use Rattle.std.specs.Prelude.{◌≡◌, ◌≤◌, length};
 ghost use Rattle.meaning.specs.Calls.{detail_bytes};
-ghost use Rattle.tap.specs.Fields.{refusal_fields, verdict_fields, deciding_fields, checking_fields, countering_fields, Put};
+ghost use Rattle.tap.specs.Fields.{verdict_of, refusal_fields, verdict_fields, deciding_fields, checking_fields, countering_fields, Put};
 
-use op_answers::{Checking, Countering, Deciding, PROFILE, Refusal};
+use op_answers::{Countered, Decision, Input, Refusal, Witness};
+use read_judged::RefusalKind;
 use write_line::put_word;
 
 // "verdict (0 refused, 1 implied or accepted, 2 not implied)"
-const REFUSED: usize = 0;
+#[derive(Clone, Copy, Debug, PartialEq, Eq)]
+pub enum Verdict {
+    Refused = 0,
+    ImpliedOrAccepted = 1,
+    NotImplied = 2,
+}
 
-const IMPLIED_OR_ACCEPTED: usize = 1;
-
-const NOT_IMPLIED: usize = 2;
-
-// Refusal 12, of the profile.
-const BREAKS_A_KEY: usize = 12;
+impl Verdict {
+    fn number(self) -> usize
+        ensures { result ≡ verdict_of self }
+    {
+        self as usize
+    }
+}
 
 // How many values two bytes have.
 const WORD: usize = 65536;
 
 // "verdict .., refusal number, input, record, bytes used (0 if none)"
-#[derive(Clone, Copy)]
+#[derive(Clone, Copy, Debug, PartialEq, Eq)]
 pub struct Fields {
-    pub verdict: usize,
+    pub verdict: Verdict,
     pub number: usize,
     pub input: usize,
     pub place: usize,
@@ -33,16 +40,16 @@ fn of_refusal(refusal: Refusal) -> Fields
     ensures { result ≡ refusal_fields refusal }
 {
     Fields {
-        verdict: REFUSED,
-        number: refusal.number,
-        input: refusal.input,
+        verdict: Verdict::Refused,
+        number: refusal.kind.number(),
+        input: refusal.input.number(),
         place: refusal.place,
         used: 0,
     }
 }
 
 // No refusal: so many bytes are used.
-fn of_verdict(verdict: usize, used: usize) -> Fields
+fn of_verdict(verdict: Verdict, used: usize) -> Fields
     ensures { result ≡ verdict_fields verdict used }
 {
     Fields {
@@ -54,37 +61,37 @@ fn of_verdict(verdict: usize, used: usize) -> Fields
     }
 }
 
-pub fn of_deciding(answer: Deciding) -> Fields
+pub fn of_deciding(answer: Result<Decision, Refusal>) -> Fields
     ensures { result ≡ deciding_fields answer }
 {
     match answer {
-        Deciding::Implied(used) => of_verdict(IMPLIED_OR_ACCEPTED, used),
-        Deciding::NotImplied(used) => of_verdict(NOT_IMPLIED, used),
-        Deciding::Refused(refusal) => of_refusal(refusal),
+        Ok(Decision::Implied(used)) => of_verdict(Verdict::ImpliedOrAccepted, used),
+        Ok(Decision::NotImplied(used)) => of_verdict(Verdict::NotImplied, used),
+        Err(refusal) => of_refusal(refusal),
     }
 }
 
-pub fn of_checking(answer: Checking) -> Fields
+pub fn of_checking(answer: Result<(), Refusal>) -> Fields
     ensures { result ≡ checking_fields answer }
 {
     match answer {
-        Checking::Accepted => of_verdict(IMPLIED_OR_ACCEPTED, 0),
-        Checking::Refused(refusal) => of_refusal(refusal),
+        Ok(()) => of_verdict(Verdict::ImpliedOrAccepted, 0),
+        Err(refusal) => of_refusal(refusal),
     }
 }
 
 // The witness has no field.
-pub fn of_countering(answer: Countering) -> Fields
+pub fn of_countering(answer: Result<Witness, Countered>) -> Fields
     ensures { result ≡ countering_fields answer }
 {
     match answer {
-        Countering::Accepted(_) => of_verdict(IMPLIED_OR_ACCEPTED, 0),
-        Countering::Breaks(key, _) => of_refusal(Refusal {
-            number: BREAKS_A_KEY,
-            input: PROFILE,
+        Ok(_) => of_verdict(Verdict::ImpliedOrAccepted, 0),
+        Err(Countered::Breaks(key, _)) => of_refusal(Refusal {
+            kind: RefusalKind::BreaksAKey,
+            input: Input::Profile,
             place: key,
         }),
-        Countering::Refused(refusal) => of_refusal(refusal),
+        Err(Countered::Refused(refusal)) => of_refusal(refusal),
     }
 }
 
@@ -94,7 +101,7 @@ pub fn put_details(detail: &mut [u8], told: Fields) -> usize
     ensures { Put told detail.old detail.new result }
 {
     let above = told.used / WORD;
-    let number_at = put_word(detail, 0, told.verdict);
+    let number_at = put_word(detail, 0, told.verdict.number());
     let input_at = put_word(detail, number_at, told.number);
     let place_at = put_word(detail, input_at, told.input);
     let used_at = put_word(detail, place_at, told.place);

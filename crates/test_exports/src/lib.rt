@@ -7,8 +7,7 @@ mod words;
 ghost use Rattle.test_exports.specs.Told.{ToldRewriting, ToldInclusion, ToldKeeping, ToldProof, ToldCounterexample, ToldListing, ToldDeciding, ToldReducing, ToldTrimming};
 
 use crate::words::{
-    of_checking, of_countering, of_deciding, of_filling, of_inclusion, of_keeping, of_listing,
-    of_rewriting,
+    of_checking, of_countering, of_deciding, of_filling, of_inclusion, of_keeping, of_lean,
 };
 use op_decide::decide;
 use op_lean::reduce;
@@ -24,7 +23,7 @@ pub extern "C" fn bench_rewrite(profile: &[u8], answer: &mut [u8], told: &mut [u
     ensures { ToldRewriting profile.now answer.old answer.new told.new }
 {
     let found = rewrite(profile, answer);
-    let words = of_rewriting(found);
+    let words = of_filling(found);
     *told = words;
 }
 
@@ -85,7 +84,7 @@ pub extern "C" fn bench_list_block(
     ensures { ToldListing profile.now tree.now block answer.old answer.new told.new }
 {
     let found = list_block(profile, tree, block, answer);
-    let words = of_listing(found);
+    let words = of_filling(found);
     *told = words;
 }
 
@@ -107,9 +106,8 @@ pub extern "C" fn bench_decide(
 pub extern "C" fn bench_reduce(profile: &[u8], answer: &mut [u8], told: &mut [usize; 4])
     ensures { ToldReducing profile.now answer.old answer.new told.new }
 {
-    let lean = reduce(profile, answer);
-    let found = lean.answer;
-    let words = of_filling(found);
+    let found = reduce(profile, answer);
+    let words = of_lean(found);
     *told = words;
 }
 

@@ -1,8 +1,10 @@
 // An answer as four numbers: which case it is, and its values in their order, 0 where there is none.
 ghost use Rattle.std.specs.Prelude.{◌≡◌};
-ghost use Rattle.test_exports.specs.Words.{rewriting_words, inclusion_words, keeping_words, checking_words, countering_words, listing_words, deciding_words, filling_words};
+ghost use Rattle.test_exports.specs.Words.{refusal_words, filling_words, lean_words, inclusion_words, keeping_words, checking_words, countering_words, deciding_words};
 
-use op_answers::{Checking, Countering, Deciding, Filling, Inclusion, Keeping, Listing, Rewriting};
+use op_answers::{Countered, Decision, Input, Refusal, Witness};
+use op_lean::Lean;
+use read_judged::RefusalKind;
 
 const REFUSED: usize = 0;
 
@@ -10,88 +12,84 @@ const FIRST_CASE: usize = 1;
 
 const SECOND_CASE: usize = 2;
 
-// Refusal 12, of the profile.
-const BREAKS_A_KEY: usize = 12;
-
-const PROFILE: usize = 1;
-
-pub fn of_rewriting(answer: Rewriting) -> [usize; 4]
-    ensures { result ≡ rewriting_words answer }
+fn of_refusal(refusal: Refusal) -> [usize; 4]
+    ensures { result ≡ refusal_words refusal }
 {
-    match answer {
-        Rewriting::Rewritten(used) => [FIRST_CASE, used, 0, 0],
-        Rewriting::Refused(refusal) => [REFUSED, refusal.number, refusal.input, refusal.place],
-    }
+    [
+        REFUSED,
+        refusal.kind.number(),
+        refusal.input.number(),
+        refusal.place,
+    ]
 }
 
-pub fn of_inclusion(answer: Inclusion) -> [usize; 4]
-    ensures { result ≡ inclusion_words answer }
-{
-    match answer {
-        Inclusion::Included => [FIRST_CASE, 0, 0, 0],
-        Inclusion::NotIncluded => [SECOND_CASE, 0, 0, 0],
-        Inclusion::Refused(refusal) => [REFUSED, refusal.number, refusal.input, refusal.place],
-    }
-}
-
-pub fn of_keeping(answer: Keeping) -> [usize; 4]
-    ensures { result ≡ keeping_words answer }
-{
-    match answer {
-        Keeping::Kept => [FIRST_CASE, 0, 0, 0],
-        Keeping::Broken(witness) => [SECOND_CASE, witness.context, witness.first, witness.second],
-        Keeping::Refused(refusal) => [REFUSED, refusal.number, refusal.input, refusal.place],
-    }
-}
-
-pub fn of_checking(answer: Checking) -> [usize; 4]
-    ensures { result ≡ checking_words answer }
-{
-    match answer {
-        Checking::Accepted => [FIRST_CASE, 0, 0, 0],
-        Checking::Refused(refusal) => [REFUSED, refusal.number, refusal.input, refusal.place],
-    }
-}
-
-pub fn of_countering(answer: Countering) -> [usize; 4]
-    ensures { result ≡ countering_words answer }
-{
-    match answer {
-        Countering::Accepted(witness) => [
-            FIRST_CASE,
-            witness.context,
-            witness.first,
-            witness.second,
-        ],
-        Countering::Breaks(key, witness) => [REFUSED, BREAKS_A_KEY, PROFILE, key],
-        Countering::Refused(refusal) => [REFUSED, refusal.number, refusal.input, refusal.place],
-    }
-}
-
-pub fn of_listing(answer: Listing) -> [usize; 4]
-    ensures { result ≡ listing_words answer }
-{
-    match answer {
-        Listing::Listed(used) => [FIRST_CASE, used, 0, 0],
-        Listing::Refused(refusal) => [REFUSED, refusal.number, refusal.input, refusal.place],
-    }
-}
-
-pub fn of_deciding(answer: Deciding) -> [usize; 4]
-    ensures { result ≡ deciding_words answer }
-{
-    match answer {
-        Deciding::Implied(used) => [FIRST_CASE, used, 0, 0],
-        Deciding::NotImplied(used) => [SECOND_CASE, used, 0, 0],
-        Deciding::Refused(refusal) => [REFUSED, refusal.number, refusal.input, refusal.place],
-    }
-}
-
-pub fn of_filling(answer: Filling) -> [usize; 4]
+pub fn of_filling(answer: Result<usize, Refusal>) -> [usize; 4]
     ensures { result ≡ filling_words answer }
 {
     match answer {
-        Filling::Filled(used) => [FIRST_CASE, used, 0, 0],
-        Filling::Refused(refusal) => [REFUSED, refusal.number, refusal.input, refusal.place],
+        Ok(used) => [FIRST_CASE, used, 0, 0],
+        Err(refusal) => of_refusal(refusal),
+    }
+}
+
+pub fn of_lean(answer: Result<Lean, Refusal>) -> [usize; 4]
+    ensures { result ≡ lean_words answer }
+{
+    match answer {
+        Ok(lean) => [FIRST_CASE, lean.used, 0, 0],
+        Err(refusal) => of_refusal(refusal),
+    }
+}
+
+pub fn of_inclusion(answer: Result<bool, Refusal>) -> [usize; 4]
+    ensures { result ≡ inclusion_words answer }
+{
+    match answer {
+        Ok(true) => [FIRST_CASE, 0, 0, 0],
+        Ok(false) => [SECOND_CASE, 0, 0, 0],
+        Err(refusal) => of_refusal(refusal),
+    }
+}
+
+pub fn of_keeping(answer: Result<Option<Witness>, Refusal>) -> [usize; 4]
+    ensures { result ≡ keeping_words answer }
+{
+    match answer {
+        Ok(None) => [FIRST_CASE, 0, 0, 0],
+        Ok(Some(witness)) => [SECOND_CASE, witness.context, witness.first, witness.second],
+        Err(refusal) => of_refusal(refusal),
+    }
+}
+
+pub fn of_checking(answer: Result<(), Refusal>) -> [usize; 4]
+    ensures { result ≡ checking_words answer }
+{
+    match answer {
+        Ok(()) => [FIRST_CASE, 0, 0, 0],
+        Err(refusal) => of_refusal(refusal),
+    }
+}
+
+pub fn of_countering(answer: Result<Witness, Countered>) -> [usize; 4]
+    ensures { result ≡ countering_words answer }
+{
+    match answer {
+        Ok(witness) => [FIRST_CASE, witness.context, witness.first, witness.second],
+        Err(Countered::Breaks(key, _)) => of_refusal(Refusal {
+            kind: RefusalKind::BreaksAKey,
+            input: Input::Profile,
+            place: key,
+        }),
+        Err(Countered::Refused(refusal)) => of_refusal(refusal),
+    }
+}
+
+pub fn of_deciding(answer: Result<Decision, Refusal>) -> [usize; 4]
+    ensures { result ≡ deciding_words answer }
+{
+    match answer {
+        Ok(Decision::Implied(used)) => [FIRST_CASE, used, 0, 0],
+        Ok(Decision::NotImplied(used)) => [SECOND_CASE, used, 0, 0],
+        Err(refusal) => of_refusal(refusal),
     }
 }

@@ -20,7 +20,7 @@ const THIRD_LENGTH: usize = 17;
 const HEAD_BYTES: usize = 21;
 
 // A case without its inputs' bytes: the first input begins at 0, and `end` is where the third ends.
-#[derive(Clone, Copy)]
+#[derive(Clone, Copy, Debug, PartialEq, Eq)]
 pub struct Case {
     pub operation: u8,
     pub number: usize,
@@ -30,28 +30,12 @@ pub struct Case {
     pub end: usize,
 }
 
-// The next case, or nothing more.
-#[derive(Clone, Copy)]
-pub enum Next {
-    Is(Case),
-    Nothing,
-}
-
-pub fn wide(x: u8) -> usize
-    ensures { result < 256 }
-{
-    x as usize
-}
-
 // The number of four bytes, little-endian, at a place of the head.
 fn number_at(head: &[u8; HEAD_BYTES], at: usize) -> usize
     requires { at + 4 ≤ 21 }
     ensures { result < 4294967296 }
 {
-    wide(head[at])
-        + 256 * wide(head[at + 1])
-        + 65536 * wide(head[at + 2])
-        + 16777216 * wide(head[at + 3])
+    u32::from_le_bytes([head[at], head[at + 1], head[at + 2], head[at + 3]]) as usize
 }
 
 fn case_of(head: &[u8; HEAD_BYTES]) -> Case {
@@ -67,13 +51,13 @@ fn case_of(head: &[u8; HEAD_BYTES]) -> Case {
     }
 }
 
-// Reads the head of the next case.
-pub fn read_case(reader: &mut impl Read) -> io::Result<Next> {
+// Reads the head of the next case, if there is one.
+pub fn read_case(reader: &mut impl Read) -> io::Result<Option<Case>> {
     let mut head = [0u8; HEAD_BYTES];
     if read_full(reader, &mut head)? < HEAD_BYTES {
-        return Ok(Next::Nothing);
+        return Ok(None);
     }
-    Ok(Next::Is(case_of(&head)))
+    Ok(Some(case_of(&head)))
 }
 
 // Puts a case's inputs, which are so many bytes, at the start of the space. False where they do not fit, or the stream breaks off.
@@ -86,11 +70,5 @@ pub fn read_inputs(reader: &mut impl Read, end: usize, space: &mut [u8]) -> io::
 
 // One input: the bytes of the space from a place up to another. Both lie in it, since the inputs were read.
 pub fn input(space: &[u8], from: usize, to: usize) -> &[u8] {
-    if to > space.len() {
-        return space;
-    }
-    if from > to {
-        return space;
-    }
-    &space[from..to]
+    space.get(from..to).unwrap_or(space)
 }

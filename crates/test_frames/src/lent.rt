@@ -3,7 +3,6 @@
 ghost use Rattle.std.specs.Prelude.{◌≤◌, length};
 
 use op_answers::Refusal;
-use program_files::{print, print_count, print_refusal};
 use std::io;
 
 // Byte i of the pattern is i % PERIOD: a prime, so that no run of a power of two bytes repeats it.
@@ -15,43 +14,27 @@ fn pattern(i: usize) -> u8 {
 
 // Puts the pattern into all of the buffer.
 pub fn fill(answer: &mut [u8]) {
-    let mut i = 0;
-    while i < answer.len() {
-        answer[i] = pattern(i);
-        i += 1;
+    for (i, byte) in answer.iter_mut().enumerate() {
+        *byte = pattern(i);
     }
 }
 
 // The first period from that byte on, or what there is of it, holds the pattern.
 fn begins_unchanged(answer: &[u8], from: usize) -> bool {
-    let mut i = from;
-    while i < answer.len() {
-        if i - from == PERIOD {
-            return true;
-        }
-        if answer[i] != pattern(i) {
-            return false;
-        }
-        i += 1;
-    }
-    true
+    answer
+        .iter()
+        .enumerate()
+        .skip(from)
+        .take(PERIOD)
+        .all(|(i, &byte)| byte == pattern(i))
 }
 
-// Each byte that stands a period or more behind that one is the byte a period before it. Every case that lends a buffer comes here with all of it, so
-// the loop has no way out in its midst: the compiler then takes many bytes at once.
+// Each byte that stands a period or more behind that one is the byte a period before it.
 fn repeats(answer: &[u8], from: usize) -> bool
     requires { from ≤ length answer.now }
 {
-    if answer.len() - from < PERIOD {
-        return true;
-    }
-    let mut difference = 0u8;
-    let mut i = from + PERIOD;
-    while i < answer.len() {
-        difference = difference | (answer[i] ^ answer[i - PERIOD]);
-        i += 1;
-    }
-    difference == 0
+    let rest = &answer[from..];
+    rest.len() < PERIOD || &rest[PERIOD..] == &rest[..rest.len() - PERIOD]
 }
 
 // From that byte on the buffer holds the pattern.
@@ -62,7 +45,7 @@ fn is_unchanged(answer: &[u8], from: usize) -> bool
 }
 
 fn changed(rt: &impl Print, answer: &mut [u8]) -> io::Result<()> {
-    print(rt, b"changed\n")?;
+    println!(rt; "changed")?;
     fill(answer);
     Ok(())
 }
@@ -72,19 +55,16 @@ pub fn refused(rt: &impl Print, refusal: Refusal, answer: &mut [u8]) -> io::Resu
     if !is_unchanged(answer, 0) {
         return changed(rt, answer);
     }
-    print_refusal(rt, refusal.number, refusal.input, refusal.place)
+    println!(rt; "{refusal}")
 }
 
 // The line with the bytes used, and these bytes. Behind them nothing is changed; they get the pattern again.
-pub fn filled(rt: &impl Print, word: &[u8], used: usize, answer: &mut [u8]) -> io::Result<()> {
-    if used > answer.len() {
+pub fn filled(rt: &impl Print, word: &str, used: usize, answer: &mut [u8]) -> io::Result<()> {
+    if used > answer.len() || !is_unchanged(answer, used) {
         return changed(rt, answer);
     }
-    if !is_unchanged(answer, used) {
-        return changed(rt, answer);
-    }
-    print_count(rt, word, used)?;
-    print(rt, &answer[..used])?;
+    println!(rt; "{word} {used}")?;
+    rt.write_all(&answer[..used])?;
     fill(&mut answer[..used]);
     Ok(())
 }

@@ -1,33 +1,31 @@
 // The segments of a campaign's case, one behind the other: four bytes of length (little-endian), and as many bytes; UNREAD stands for a name that
 // cannot be read, and has none.
-ghost use Rattle.std.specs.Prelude.{◌+◌, ◌≤◌, length};
+ghost use Rattle.std.specs.Prelude.{◌<◌, length, IfSome};
 
-use crate::cases::wide;
+const UNREAD: u32 = 4294967295;
 
-pub const SEGMENT_HEAD: usize = 4;
-
-pub const UNREAD: usize = 4294967295;
-
-// The number of the four bytes at a place.
-pub fn segment_length(framed: &[u8], at: usize) -> usize
-    requires { at + 4 ≤ length framed.now }
-{
-    wide(framed[at])
-        + 256 * wide(framed[at + 1])
-        + 65536 * wide(framed[at + 2])
-        + 16777216 * wide(framed[at + 3])
+// The bytes of a segment, none where its name cannot be read; and what stands behind it.
+#[derive(Clone, Copy, Debug)]
+pub struct Segment<'a> {
+    pub bytes: Option<&'a [u8]>,
+    pub rest: &'a [u8],
 }
 
-// Where a segment ends that begins at a place: behind its bytes, at once where it is unread, and no later than all of them.
-pub fn segment_end(framed: &[u8], from: usize, bytes: usize) -> usize
-    requires { from ≤ length framed.now }
-    ensures { (from ≤ result) × (result ≤ length framed.now) }
+// The first segment, if one is left. It ends no later than all of them.
+pub fn first_segment(framed: &[u8]) -> Option<Segment<'_>>
+    ensures { IfSome result (λ segment. length segment.rest.now < length framed.now) }
 {
-    if bytes == UNREAD {
-        return from;
+    let (head, behind) = framed.split_first_chunk::<4>()?;
+    let size = u32::from_le_bytes(*head);
+    if size == UNREAD {
+        return Some(Segment {
+            bytes: None,
+            rest: behind,
+        });
     }
-    if bytes > framed.len() - from {
-        return framed.len();
-    }
-    from + bytes
+    let (bytes, rest) = behind.split_at(behind.len().min(size as usize));
+    Some(Segment {
+        bytes: Some(bytes),
+        rest,
+    })
 }

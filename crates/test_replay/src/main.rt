@@ -1,57 +1,84 @@
 // Answers a stream of cases of the public operations on standard input. tests/reference/stream.rs has the format and tests/differential.rs makes the
-// stream and, from document 01 alone, holds what comes back to it. Thin: it reads a case, calls one operation and writes its answer.
+// stream and, from the definitions alone, holds what comes back to it. Thin: it reads a case, calls one operation and writes its answer.
 //
 // An answer is a line as the programs print it; where the line ends in a number of bytes, they follow. `not here` stands for an operation or a room
 // that this program does not have, `changed` for an operation that changed a byte of the answer buffer behind those it used.
 #![tactic(auto)]
 
-use op_answers::{Checking, Deciding, Filling, Inclusion, Listing, Rewriting};
+use op_answers::{Decision, Refusal};
 use op_campaign::{count_segment, report};
 use op_list::list_block;
 use op_proof::check_proof;
 use op_tally::{Tally, count_unread, no_counts};
 use op_tree::check_counterexample;
 use op_trim::trim;
-use program_files::{print, print_count, print_refusal};
 use program_lean::print_dropped;
 use program_witness::{print_countering, print_keeping};
 use std::io;
 use std::io::Read;
-use test_frames::cases::{Case, Next, input, read_case, read_inputs};
+use test_frames::cases::{Case, input, read_case, read_inputs};
 use test_frames::lent::{fill, filled, refused};
-use test_frames::segments::{SEGMENT_HEAD, UNREAD, segment_end, segment_length};
+use test_frames::segments::first_segment;
 
-const REWRITE: u8 = 1;
+// The operations, by their numbers in the stream.
+#[derive(Clone, Copy, Debug, PartialEq, Eq)]
+enum Operation {
+    Rewrite,
+    Body,
+    Include,
+    Keep,
+    CheckProof,
+    CheckTree,
+    Decide,
+    List,
+    ReadLine,
+    WriteLine,
+    Reduce,
+    DroppedProof,
+    Trim,
+    Salvage,
+    SalvageListing,
+    Campaign,
+}
 
-const BODY: u8 = 2;
+// No operation has that number.
+#[derive(Clone, Copy, Debug, PartialEq, Eq)]
+struct NoOperation;
 
-const INCLUDE: u8 = 3;
+impl TryFrom<u8> for Operation {
+    type Error = NoOperation;
 
-const KEEP: u8 = 4;
+    fn try_from(number: u8) -> Result<Operation, NoOperation> {
+        match number {
+            1 => Ok(Operation::Rewrite),
+            2 => Ok(Operation::Body),
+            3 => Ok(Operation::Include),
+            4 => Ok(Operation::Keep),
+            5 => Ok(Operation::CheckProof),
+            6 => Ok(Operation::CheckTree),
+            7 => Ok(Operation::Decide),
+            8 => Ok(Operation::List),
+            9 => Ok(Operation::ReadLine),
+            10 => Ok(Operation::WriteLine),
+            11 => Ok(Operation::Reduce),
+            12 => Ok(Operation::DroppedProof),
+            13 => Ok(Operation::Trim),
+            14 => Ok(Operation::Salvage),
+            15 => Ok(Operation::SalvageListing),
+            16 => Ok(Operation::Campaign),
+            _ => Err(NoOperation),
+        }
+    }
+}
 
-const CHECK_PROOF: u8 = 5;
-
-const CHECK_TREE: u8 = 6;
-
-const DECIDE: u8 = 7;
-
-const LIST: u8 = 8;
-
-const READ_LINE: u8 = 9;
-
-const WRITE_LINE: u8 = 10;
-
-const REDUCE: u8 = 11;
-
-const DROPPED_PROOF: u8 = 12;
-
-const TRIM: u8 = 13;
-
-const SALVAGE: u8 = 14;
-
-const SALVAGE_LISTING: u8 = 15;
-
-const CAMPAIGN: u8 = 16;
+// What an operation is given besides the answer buffer.
+#[derive(Clone, Copy, Debug)]
+struct Inputs<'a> {
+    number: usize,
+    first: &'a [u8],
+    second: &'a [u8],
+    third: &'a [u8],
+}
 
 // No input of the stream is longer than a question of two whole records, and there are three.
 const INPUTS_ROOM: usize = 393216;
@@ -60,29 +87,20 @@ const INPUTS_ROOM: usize = 393216;
 const ANSWER_ROOM: usize = 65537;
 
 fn not_here(rt: &impl Print) -> io::Result<()> {
-    print(rt, b"not here\n")
-}
-
-fn rewrite(rt: &impl Print, profile: &[u8], answer: &mut [u8]) -> io::Result<()> {
-    let rewritten = op_profile::profiles::rewrite(profile, answer);
-    match rewritten {
-        Rewriting::Refused(refusal) => refused(rt, refusal, answer),
-        Rewriting::Rewritten(used) => filled(rt, b"rewritten", used, answer),
-    }
+    println!(rt; "not here")
 }
 
 fn body(rt: &impl Print, profile: &[u8], n: usize) -> io::Result<()> {
     let bytes = op_profile::profiles::body(profile, n);
-    print_count(rt, b"body", bytes.len())?;
-    print(rt, bytes)
+    println!(rt; "body {}", bytes.len())?;
+    rt.write_all(bytes)
 }
 
 fn include(rt: &impl Print, profile: &[u8], path: &[u8], other: &[u8]) -> io::Result<()> {
-    let included = op_profile::inclusions::include(profile, path, other);
-    match included {
-        Inclusion::Included => print(rt, b"included\n"),
-        Inclusion::NotIncluded => print(rt, b"not included\n"),
-        Inclusion::Refused(r) => print_refusal(rt, r.number, r.input, r.place),
+    match op_profile::inclusions::include(profile, path, other) {
+        Ok(true) => println!(rt; "included"),
+        Ok(false) => println!(rt; "not included"),
+        Err(refusal) => println!(rt; "{refusal}"),
     }
 }
 
@@ -90,187 +108,134 @@ fn keep(rt: &impl Print, profile: &[u8], question: &[u8], tree: &[u8]) -> io::Re
     print_keeping(rt, op_tree::keep(profile, question, tree))
 }
 
-fn checked(rt: &impl Print, checking: Checking) -> io::Result<()> {
+fn checked(rt: &impl Print, checking: Result<(), Refusal>) -> io::Result<()> {
     match checking {
-        Checking::Accepted => print(rt, b"accepted\n"),
-        Checking::Refused(r) => print_refusal(rt, r.number, r.input, r.place),
-    }
-}
-
-fn list(
-    rt: &impl Print,
-    profile: &[u8],
-    tree: &[u8],
-    block: usize,
-    answer: &mut [u8],
-) -> io::Result<()> {
-    let listing = list_block(profile, tree, block, answer);
-    match listing {
-        Listing::Refused(refusal) => refused(rt, refusal, answer),
-        Listing::Listed(used) => filled(rt, b"listed", used, answer),
+        Ok(()) => println!(rt; "accepted"),
+        Err(refusal) => println!(rt; "{refusal}"),
     }
 }
 
 fn decide(rt: &impl Print, profile: &[u8], question: &[u8], answer: &mut [u8]) -> io::Result<()> {
-    let decided = op_decide::decide(profile, question, answer);
-    match decided {
-        Deciding::Refused(refusal) => refused(rt, refusal, answer),
-        Deciding::Implied(used) => filled(rt, b"implied", used, answer),
-        Deciding::NotImplied(used) => filled(rt, b"not implied", used, answer),
+    match op_decide::decide(profile, question, answer) {
+        Ok(Decision::Implied(used)) => filled(rt, "implied", used, answer),
+        Ok(Decision::NotImplied(used)) => filled(rt, "not implied", used, answer),
+        Err(refusal) => refused(rt, refusal, answer),
     }
 }
 
-// The line of an operation of 02 that fills an answer buffer, by its word.
-fn filling(rt: &impl Print, word: &[u8], answered: Filling, answer: &mut [u8]) -> io::Result<()> {
+// The line of an operation that fills an answer buffer, by its word.
+fn filling(
+    rt: &impl Print,
+    word: &str,
+    answered: Result<usize, Refusal>,
+    answer: &mut [u8],
+) -> io::Result<()> {
     match answered {
-        Filling::Refused(refusal) => refused(rt, refusal, answer),
-        Filling::Filled(used) => filled(rt, word, used, answer),
+        Ok(used) => filled(rt, word, used, answer),
+        Err(refusal) => refused(rt, refusal, answer),
     }
 }
 
 // The numbers of the dropped keys stand before the number of bytes.
 fn reduce(rt: &impl Print, profile: &[u8], answer: &mut [u8]) -> io::Result<()> {
-    let lean = op_lean::reduce(profile, answer);
-    let answered = lean.answer;
-    let dropped = lean.dropped;
-    match answered {
-        Filling::Refused(refusal) => refused(rt, refusal, answer),
-        Filling::Filled(used) => {
-            print(rt, b"reduced ")?;
-            print_dropped(rt, dropped, lean.count)?;
-            filled(rt, b"", used, answer)
+    match op_lean::reduce(profile, answer) {
+        Ok(lean) => {
+            print!(rt; "reduced ")?;
+            print_dropped(rt, &lean.dropped[..lean.count])?;
+            filled(rt, "", lean.used, answer)
         }
+        Err(refusal) => refused(rt, refusal, answer),
     }
-}
-
-// One input of a campaign more: the bytes of a segment, or a name that cannot be read.
-fn count_one(profile: &[u8], bytes: usize, segment: &[u8], tally: Tally) -> Tally {
-    if bytes == UNREAD {
-        return count_unread(tally);
-    }
-    count_segment(profile, segment, tally)
 }
 
 fn count_all(profile: &[u8], framed: &[u8]) -> Tally {
     let mut tally = no_counts();
-    let mut at = 0;
-    while framed.len() - at >= SEGMENT_HEAD {
-        let bytes = segment_length(framed, at);
-        let from = at + SEGMENT_HEAD;
-        let end = segment_end(framed, from, bytes);
-        tally = count_one(profile, bytes, input(framed, from, end), tally);
-        at = end;
+    let mut rest = framed;
+    while let Some(segment) = first_segment(rest) {
+        tally = match segment.bytes {
+            Some(tree) => count_segment(profile, tree, tally),
+            None => count_unread(tally),
+        };
+        rest = segment.rest;
     }
     tally
 }
 
-// The operations of 02 that fill an answer buffer: one `if` for each.
-fn answer_request(
-    rt: &impl Print,
-    case: Case,
-    first: &[u8],
-    second: &[u8],
-    third: &[u8],
-    answer: &mut [u8],
-) -> io::Result<()> {
-    if case.operation == READ_LINE {
-        let read = op_read_line::read_line(first, second, answer);
-        return filling(rt, b"key", read, answer);
-    }
-    if case.operation == WRITE_LINE {
-        let written = op_write_line::write_line(first, second, answer);
-        return filling(rt, b"text", written, answer);
-    }
-    if case.operation == REDUCE {
-        return reduce(rt, first, answer);
-    }
-    if case.operation == DROPPED_PROOF {
-        let proved = op_lean::prove_dropped(first, case.number, answer);
-        return filling(rt, b"proof", proved, answer);
-    }
-    if case.operation == TRIM {
-        let trimmed = trim(first, second, third, answer);
-        return filling(rt, b"trimmed", trimmed, answer);
-    }
-    if case.operation == SALVAGE {
-        let salvaged = op_salvage::salvage::salvage(first, third, answer);
-        return filling(rt, b"salvaged", salvaged, answer);
-    }
-    if case.operation == SALVAGE_LISTING {
-        let listed = op_salvage_list::salvage_block(first, third, case.number, answer);
-        return filling(rt, b"listed", listed, answer);
-    }
-    if case.operation == CAMPAIGN {
-        let reported = report(second, first, count_all(first, third), answer);
-        return filling(rt, b"reported", reported, answer);
-    }
-    not_here(rt)
-}
-
-// Those of 01.
-fn answer_filling(
-    rt: &impl Print,
-    case: Case,
-    first: &[u8],
-    second: &[u8],
-    third: &[u8],
-    answer: &mut [u8],
-) -> io::Result<()> {
-    if case.operation == REWRITE {
-        return rewrite(rt, first, answer);
-    }
-    if case.operation == DECIDE {
-        return decide(rt, first, second, answer);
-    }
-    if case.operation == LIST {
-        return list(rt, first, third, case.number, answer);
-    }
-    answer_request(rt, case, first, second, third, answer)
-}
-
-// One `if` for each operation that fills none.
+// One arm for each operation.
 fn answer_inputs(
     rt: &impl Print,
-    case: Case,
-    first: &[u8],
-    second: &[u8],
-    third: &[u8],
+    operation: Operation,
+    inputs: Inputs,
     answer: &mut [u8],
 ) -> io::Result<()> {
-    if case.operation == BODY {
-        return body(rt, first, case.number);
+    let Inputs {
+        number,
+        first,
+        second,
+        third,
+    } = inputs;
+    match operation {
+        Operation::Rewrite => {
+            let rewritten = op_profile::profiles::rewrite(first, answer);
+            filling(rt, "rewritten", rewritten, answer)
+        }
+        Operation::Body => body(rt, first, number),
+        Operation::Include => include(rt, first, second, third),
+        Operation::Keep => keep(rt, first, second, third),
+        Operation::CheckProof => checked(rt, check_proof(first, second, third)),
+        Operation::CheckTree => print_countering(rt, check_counterexample(first, second, third)),
+        Operation::Decide => decide(rt, first, second, answer),
+        Operation::List => {
+            let listed = list_block(first, third, number, answer);
+            filling(rt, "listed", listed, answer)
+        }
+        Operation::ReadLine => {
+            let read = op_read_line::read_line(first, second, answer);
+            filling(rt, "key", read, answer)
+        }
+        Operation::WriteLine => {
+            let written = op_write_line::write_line(first, second, answer);
+            filling(rt, "text", written, answer)
+        }
+        Operation::Reduce => reduce(rt, first, answer),
+        Operation::DroppedProof => {
+            let proved = op_lean::prove_dropped(first, number, answer);
+            filling(rt, "proof", proved, answer)
+        }
+        Operation::Trim => {
+            let trimmed = trim(first, second, third, answer);
+            filling(rt, "trimmed", trimmed, answer)
+        }
+        Operation::Salvage => {
+            let salvaged = op_salvage::salvage::salvage(first, third, answer);
+            filling(rt, "salvaged", salvaged, answer)
+        }
+        Operation::SalvageListing => {
+            let listed = op_salvage_list::salvage_block(first, third, number, answer);
+            filling(rt, "listed", listed, answer)
+        }
+        Operation::Campaign => {
+            let reported = report(second, first, count_all(first, third), answer);
+            filling(rt, "reported", reported, answer)
+        }
     }
-    if case.operation == INCLUDE {
-        return include(rt, first, second, third);
-    }
-    if case.operation == KEEP {
-        return keep(rt, first, second, third);
-    }
-    if case.operation == CHECK_PROOF {
-        return checked(rt, check_proof(first, second, third));
-    }
-    if case.operation == CHECK_TREE {
-        return print_countering(rt, check_counterexample(first, second, third));
-    }
-    answer_filling(rt, case, first, second, third, answer)
 }
 
 // Lends as much of the answer buffer as the case says.
 fn answer_case(rt: &impl Print, case: Case, space: &[u8], answer: &mut [u8]) -> io::Result<()> {
-    let room = case.room;
-    if room > answer.len() {
-        return not_here(rt);
+    let inputs = Inputs {
+        number: case.number,
+        first: input(space, 0, case.second),
+        second: input(space, case.second, case.third),
+        third: input(space, case.third, case.end),
+    };
+    match (
+        Operation::try_from(case.operation),
+        answer.get_mut(..case.room),
+    ) {
+        (Ok(operation), Some(lent)) => answer_inputs(rt, operation, inputs, lent),
+        _ => not_here(rt),
     }
-    let second = input(space, case.second, case.third);
-    let third = input(space, case.third, case.end);
-    answer_inputs(
-        rt,
-        case,
-        input(space, 0, case.second),
-        second,
-        third,
-        &mut answer[..room],
-    )
 }
 
 // Answers the next case, and says whether there was one.
@@ -280,17 +245,14 @@ fn answer_next(
     space: &mut [u8],
     answer: &mut [u8],
 ) -> io::Result<bool> {
-    let next = read_case(reader)?;
-    match next {
-        Next::Nothing => Ok(false),
-        Next::Is(case) => {
-            let is_read = read_inputs(reader, case.end, space)?;
-            if is_read {
-                answer_case(rt, case, space, answer)?;
-            }
-            Ok(is_read)
-        }
+    let Some(case) = read_case(reader)? else {
+        return Ok(false);
+    };
+    let is_read = read_inputs(reader, case.end, space)?;
+    if is_read {
+        answer_case(rt, case, space, answer)?;
     }
+    Ok(is_read)
 }
 
 // A proved loop has to end, and nothing says that the input does. So the loop counts its turns, to a number that no run uses up.
@@ -302,7 +264,7 @@ fn answer_all(
 ) -> io::Result<()> {
     for _ in 0..u64::MAX {
         if !answer_next(rt, reader, space, answer)? {
-            return Ok(());
+            break;
         }
     }
     Ok(())

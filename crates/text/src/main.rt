@@ -1,14 +1,12 @@
-// The program `text` (02, request 1): `text key PROFILE LINE OUT` writes the record of the key that a line spells, `text line PROFILE QUESTION OUT` the
-// question's key in plain text, with a newline behind it. Thin over `op_read_line` and `op_write_line`; a file that cannot be read is named, and nothing
-// is answered.
+// The program `text`: `text key PROFILE LINE OUT` writes the record of the key that a line spells, `text line PROFILE QUESTION OUT` the question's key
+// in plain text, with a newline behind it. Thin over `op_read_line` and `op_write_line`; a file that cannot be read is named, and nothing is answered.
 #![tactic(auto)]
 
-use op_answers::Filling;
 use op_read_line::read_line;
 use op_write_line::write_line;
 use program_files::{
-    ANSWER_ROOM, PROFILE_READ, QUESTION_READ, is_word, part_read, print, print_count,
-    print_refusal, read_argument, unread, word_count, write_argument, write_used,
+    ANSWER_ROOM, PROFILE_READ, QUESTION_READ, WORD_ROOM, read_argument, word_argument, word_count,
+    write_argument, write_used,
 };
 use program_text::bare;
 use std::io;
@@ -26,32 +24,22 @@ const LINE_READ: usize = 131071;
 const NEWLINE: u8 = b'\n';
 
 fn usage(rt: &impl Print) -> io::Result<()> {
-    print(
-        rt,
-        b"usage: text key PROFILE LINE OUT | text line PROFILE QUESTION OUT\n",
-    )
+    println!(rt; "usage: text key PROFILE LINE OUT | text line PROFILE QUESTION OUT")
 }
 
 fn key_of_line(rt: &(impl Env + Files + Print)) -> io::Result<()> {
     let mut profile = [0u8; PROFILE_READ];
     let mut line = [0u8; LINE_READ];
     let mut answer = [0u8; ANSWER_ROOM];
-    let first = read_argument(rt, 2, &mut profile)?;
-    if unread(first) {
+    let Some(first) = read_argument(rt, 2, &mut profile)? else {
         return Ok(());
-    }
-    let second = read_argument(rt, 3, &mut line)?;
-    if unread(second) {
+    };
+    let Some(second) = read_argument(rt, 3, &mut line)? else {
         return Ok(());
-    }
-    let read = read_line(
-        part_read(first, &profile),
-        bare(part_read(second, &line)),
-        &mut answer,
-    );
-    match read {
-        Filling::Refused(r) => print_refusal(rt, r.number, r.input, r.place),
-        Filling::Filled(used) => write_used(rt, OUT, b"key", &answer, used),
+    };
+    match read_line(&profile[..first], bare(&line[..second]), &mut answer) {
+        Ok(used) => write_used(rt, OUT, "key", &answer, used),
+        Err(refusal) => println!(rt; "{refusal}"),
     }
 }
 
@@ -68,39 +56,24 @@ fn line_of_key(rt: &(impl Env + Files + Print)) -> io::Result<()> {
     let mut profile = [0u8; PROFILE_READ];
     let mut question = [0u8; QUESTION_READ];
     let mut answer = [0u8; ANSWER_ROOM];
-    let first = read_argument(rt, 2, &mut profile)?;
-    if unread(first) {
+    let Some(first) = read_argument(rt, 2, &mut profile)? else {
         return Ok(());
-    }
-    let second = read_argument(rt, 3, &mut question)?;
-    if unread(second) {
+    };
+    let Some(second) = read_argument(rt, 3, &mut question)? else {
         return Ok(());
-    }
-    let written = write_line(
-        part_read(first, &profile),
-        part_read(second, &question),
-        &mut answer,
-    );
-    match written {
-        Filling::Refused(r) => print_refusal(rt, r.number, r.input, r.place),
-        Filling::Filled(used) => {
-            if write_ended(rt, &mut answer, used) {
-                print_count(rt, b"text", used)
-            } else {
-                print(rt, b"unwritable\n")
-            }
-        }
+    };
+    match write_line(&profile[..first], &question[..second], &mut answer) {
+        Ok(used) if write_ended(rt, &mut answer, used) => println!(rt; "text {used}"),
+        Ok(_) => println!(rt; "unwritable"),
+        Err(refusal) => println!(rt; "{refusal}"),
     }
 }
 
 fn main(rt: HostRuntime) -> io::Result<()> {
-    if word_count(&rt) == WORDS {
-        if is_word(&rt, 1, b"key") {
-            return key_of_line(&rt);
-        }
-        if is_word(&rt, 1, b"line") {
-            return line_of_key(&rt);
-        }
+    let mut room = [0u8; WORD_ROOM];
+    match (word_count(&rt), word_argument(&rt, 1, &mut room)) {
+        (WORDS, b"key") => key_of_line(&rt),
+        (WORDS, b"line") => line_of_key(&rt),
+        _ => usage(&rt),
     }
-    usage(&rt)
 }

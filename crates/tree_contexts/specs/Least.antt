@@ -1,12 +1,11 @@
 -- Numbers handed down a path: to each node the least of the numbers at the nodes that reach it, symbol by symbol. One law for each return.
-use Prim.Native.Nat.{ℕ, zero, suc, ◌-◌, ◌<◌, ◌≤◌}
-use Rattle.std.specs.Prelude.{◌≡◌, ◌⊎◌, length, take, drop}
+use Prim.Native.Nat.{ℕ, zero, suc, ◌<◌, ◌≤◌}
+use Rattle.std.specs.Prelude.{◌≡◌, ◌+◌, ◌⊎◌, length, take}
 use Rattle.std.proofs.Math.Path.{refl, sym, ap}
-use Rattle.std.proofs.Common.{◌∙◌, subst, inl, inr, drop-cons}
+use Rattle.std.proofs.Common.{◌∙◌, subst, inl, inr, take-suc}
 use mathlib.Core.List.{List, [], ◌∷◌, ◌++◌, append-nil}
 use native.Mathlib.Omega.{arith}
 use Rattle.std.proofs.Math.Decide.{ℕ_discrete}
-use borrow.Author.Rules.{part_to_end}
 use Rattle.std.proofs.Math.ListN.{get_or}
 use Rattle.meaning.specs.Trees.{Table, Down, here, step, Reached}
 use Rattle.theory_paths.specs.Words.{Word, word_append}
@@ -137,31 +136,32 @@ module _ (t : Table) (from : List ℕ) where
       }
   least_empty (s ∷ path) e l = absurd (omega arith)
 
-  pub least_on : ParentsSmaller t → (s : ℕ) (path mid to : List ℕ) → Least t (s ∷ []) from mid → Least t path mid to → Least t (s ∷ path) from to
+  -- a path and one behind it
+  pub least_both : ParentsSmaller t → (first path mid to : List ℕ) → Least t first from mid → Least t path mid to → Least t (first ++ path) from to
   unfolding Least
-  least_on small s path mid to a b =
-      record { long = b.long; each = λ v h. record { least = λ u r. low v h u (reached_append_split (s ∷ []) path r); handed = λ g. on v h g } }
+  least_both small first path mid to a b =
+      record { long = b.long; each = λ v h. record { least = λ u r. low v h u (reached_append_split first path r); handed = λ g. on v h g } }
     where
-      low : (v : ℕ) → v < t.size → (u : ℕ) → ReachedWay t u (s ∷ []) path v → get_or to v 0 ≤ get_or from u 0
+      low : (v : ℕ) → v < t.size → (u : ℕ) → ReachedWay t u first path v → get_or to v 0 ≤ get_or from u 0
       low v h u w =
           let i = (a.each w.node (above_inside small (reached_above w.below) h)).least u w.above in
           let j = (b.each v h).least w.node w.below in
           omega arith
 
-      on : (v : ℕ) → v < t.size → get_or to v 0 < 4096 → Handed t (s ∷ path) from v (get_or to v 0)
+      on : (v : ℕ) → v < t.size → get_or to v 0 < 4096 → Handed t (first ++ path) from v (get_or to v 0)
       on v h g =
           let k = (b.each v h).handed g in
           let e = k.number in
           let j = (a.each k.node (above_inside small (reached_above k.reached) h)).handed (omega arith) in
           record { node = j.node; reached = reached_both j.reached k.reached; number = e ∙ j.number }
 
--- the path as its first symbol and the part behind it, which is lent on
-pub least_part : (t : Table) (path from mid to : List ℕ) → ParentsSmaller t → (s : ℕ) → 0 < length path → s ≡ get_or path 0 0
-    → Least t (s ∷ []) from mid → Least t (take (length path - 1) (drop 1 path)) mid to → Least t path from to
-least_part t path from mid to small s h e a b =
-    subst (λ (p : List ℕ). Least t p from to)
-    (sym (drop-cons path 0 0 h ∙ ap (λ (r : List ℕ). get_or path 0 0 ∷ r) (sym (part_to_end path 1))))
-    (least_on t from small (get_or path 0 0) (take (length path - 1) (drop 1 path)) mid to (subst (λ (k : ℕ). Least t (k ∷ []) from mid) e a) b)
+-- one symbol more of a path
+pub least_more : (t : Table) (path from mid to : List ℕ) → ParentsSmaller t → (i s : ℕ) → i < length path → s ≡ get_or path i 0
+    → Least t (take i path) from mid → Least t (s ∷ []) mid to → Least t (take (i + 1) path) from to
+least_more t path from mid to small i s h e a b =
+    let n : i + 1 ≡ suc i = omega arith in
+    subst (λ (p : List ℕ). Least t p from to) (sym (ap (λ (k : ℕ). take k path) n ∙ take-suc path i 0 h))
+    (least_both t from small (take i path) (get_or path i 0 ∷ []) mid to a (subst (λ (k : ℕ). Least t (k ∷ []) mid to) e b))
 
 pub least_long : (t : Table) (path from to : List ℕ) → Least t path from to → length to ≡ 4096
 unfolding Least

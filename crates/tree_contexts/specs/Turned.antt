@@ -1,7 +1,7 @@
 -- A table whose entries are turned in place, one after the other: from the front, where parents are turned already (the any-path), and from the
 -- back, where they are not yet (a label).
 use Prim.Native.Nat.{ℕ, zero, suc, ◌+◌, ◌-◌, ◌<◌, ◌≤◌}
-use Rattle.std.specs.Prelude.{◌≡◌, refl, List, [], ◌∷◌, set}
+use Rattle.std.specs.Prelude.{◌≡◌, refl, min, List, [], ◌∷◌, set}
 use Rattle.std.proofs.Common.{sym, ◌∙◌, subst, length-set, get_or-set_same, get_or-set_other}
 use Rattle.std.proofs.Math.Path.{ap}
 use native.Mathlib.Omega.{arith}
@@ -107,16 +107,11 @@ module _ (t : Table) (from table : List ℕ) where
   unfolding Least
   least_front path n h d = turned_all (LeastAt t path from) from table n t.size h d
 
--- m is the lesser of a and b
-pub record Lesser (a b m : ℕ) : Type 0 where
-  pub low : a < b → m ≡ a
-  pub high : b ≤ a → m ≡ b
-
 module _ (t : Table) (from : List ℕ) (small : ParentsSmaller t) where
   pub any_start : length from ≡ 4096 → TurnedTo (LeastAt t (0 ∷ []) from) from from 1
   any_start l = turned_one (LeastAt t (0 ∷ []) from) from l (any_root t from 0 (get_or from 0 0) refl refl)
 
-  pub any_turned : (table : List ℕ) (v p s r m : ℕ) → 0 < v → v < t.size → p ≡ t.parent v → s ≡ get_or table p 0 → r ≡ get_or table v 0 → Lesser s r m
+  pub any_turned : (table : List ℕ) (v p s r m : ℕ) → 0 < v → v < t.size → p ≡ t.parent v → s ≡ get_or table p 0 → r ≡ get_or table v 0 → m ≡ min s r
       → TurnedTo (LeastAt t (0 ∷ []) from) from table v → LeastAt t (0 ∷ []) from v m
   unfolding ParentsSmaller
   any_turned table v p s r m q h e f g l d = go (dec_lt s r)
@@ -128,8 +123,8 @@ module _ (t : Table) (from : List ℕ) (small : ParentsSmaller t) where
       above = let b = small v q h in subst (LeastAt t (0 ∷ []) from p) (sym f) (d.done p (omega arith))
 
       go : Dec (s < r) → LeastAt t (0 ∷ []) from v m
-      go (yes k) = subst (LeastAt t (0 ∷ []) from v) (sym (l.low k)) (any_above t from v small (λ z. omega arith) h p r s e own above k)
-      go (no k) = subst (LeastAt t (0 ∷ []) from v) (sym (l.high (omega arith))) (any_own t from v small (λ z. omega arith) h p r s e own above (omega arith))
+      go (yes k) = subst (LeastAt t (0 ∷ []) from v) (let e : s ≡ m = omega arith in e) (any_above t from v small (λ z. omega arith) h p r s e own above k)
+      go (no k) = subst (LeastAt t (0 ∷ []) from v) (let e : r ≡ m = omega arith in e) (any_own t from v small (λ z. omega arith) h p r s e own above (omega arith))
 
 -- the symbol that the code has found to be the any-path
 pub least_symbol : (t : Table) (s : ℕ) (from to : List ℕ) → s ≡ 0 → Least t (0 ∷ []) from to → Least t (s ∷ []) from to

@@ -2,4 +2,5 @@
 pub mod Lists
 pub mod Nodes
 pub mod Pairing
+pub mod Known
 pub mod Marks

@@ -1,4 +1,4 @@
--- "some one-to-one pairing makes them so" (request 2), of nodes that have their families: it is there exactly when the two lists are equally long and
+-- "some one-to-one pairing makes them so", of nodes that have their families: it is there exactly when the two lists are equally long and
 -- no family stands more often in the first than in the second.
 use Rattle.std.specs.Prelude.{ℕ, ◌+◌, ◌<◌, ◌≤◌, ◌≡◌, Bool, eqb}
 use Rattle.std.proofs.Math.Path.{refl, ap, ap₂}

@@ -1,5 +1,4 @@
 -- Child links and families in place in the rows of a tree.
 pub mod Leaders
 pub mod Lowest
-pub mod Only
 pub mod InRows

@@ -1,4 +1,4 @@
--- Marks at families, the second row of what is remembered: 4 b + i + 1 where key path i reaches a node of the family from b. No mark is ever taken away.
+-- Marks at families: 4 b + i + 1 where key path i reaches a node of the family from b. No mark is ever taken away.
 use Rattle.std.specs.Prelude.{ℕ, ◌+◌, ◌*◌, ◌<◌, ◌≤◌, ◌≡◌, true, false, ◌≢◌, List, [], T, length, get_or, set}
 use Rattle.std.proofs.Common.{sym, ◌∙◌, ap, subst, true≢false, arith, length-set, get_or-set_same, get_or-set_other}
 use Rattle.std.proofs.lemmas.Bool.{false≢true}
@@ -16,13 +16,14 @@ use Rattle.tree_table.specs.FileTable.{file_table}
 use Rattle.tree_table.specs.Links.{LeastChild}
 use Rattle.tree_rows.specs.Families.{Families}
 use Rattle.tree_rows.specs.Chain.{by_family}
-use Rattle.tree_rows.specs.Rows.{row, row_set, row_before, row_behind, row_length}
+use Rattle.tree_rows.specs.declared.rows.Rows.{Rows}
+use Rattle.tree_rows.specs.declared.hung.Hung as lists
 use Rattle.tree_rows.specs.Prepared.{Prepared}
 use Rattle.tree_rows.specs.Hung.{Hung, HungAll}
 use Rattle.tree_pairs.specs.Along.{Along, along_start, along_next}
 
 -- A key of at most four simple key paths, and the lists of the nodes that they reach
-pub record Hanging (classes tree rows hung body : List ℕ) : Type 0 where
+pub record Hanging (classes tree : List ℕ) (rows : Rows) (hung : List lists.Hung) (body : List ℕ) : Type 0 where
   pub prepared : Prepared classes tree rows
   pub reads : is_some (read_key body) ≡ true
   pub simples : T (every simple (key_in body).paths)
@@ -36,27 +37,18 @@ pub record Meets (t : Table) (family : List ℕ) (b : ℕ) (path : List ℕ) (c 
   pub down : Down t b path node
   pub is : get_or family node 0 ≡ c
 
-pub record Marked (t : Table) (family : List ℕ) (paths : List (List ℕ)) (memo : List ℕ) : Type 0 where
-  pub long : length memo ≡ 8192
-  pub each : (b i c : ℕ) → i < length paths → c < t.size → get_or (row 4096 memo) c 0 ≡ 4 * b + i + 1 → Meets t family b (get_or paths i []) c
+pub record Marked (t : Table) (family : List ℕ) (paths : List (List ℕ)) (marks : List ℕ) : Type 0 where
+  pub long : length marks ≡ 4096
+  pub each : (b i c : ℕ) → i < length paths → c < t.size → get_or marks c 0 ≡ 4 * b + i + 1 → Meets t family b (get_or paths i []) c
 
-pub marked_none : (t : Table) (family : List ℕ) (paths : List (List ℕ)) (memo : List ℕ) → length memo ≡ 8192
-    → ((c : ℕ) → c < t.size → get_or (row 4096 memo) c 0 ≡ 0) → Marked t family paths memo
-marked_none t family paths memo l z = record { long = l; each = λ b i c h g e. absurd (let n = z c g in omega arith) }
-
--- a store into the other row leaves them
-pub marked_beside : {t : Table} {family : List ℕ} {paths : List (List ℕ)} {memo : List ℕ} (v x : ℕ) → v < 4096 → Marked t family paths memo
-    → Marked t family paths (set memo v x)
-marked_beside {memo = memo} v x h m =
-    record {
-      long = length-set memo v x ∙ m.long;
-      each = λ b i c k g e. m.each b i c k g (sym (ap (λ (r : List ℕ). get_or r c 0) (row_before 4096 memo v x h)) ∙ e);
-    }
+pub marked_none : (t : Table) (family : List ℕ) (paths : List (List ℕ)) (marks : List ℕ) → length marks ≡ 4096
+    → ((c : ℕ) → c < t.size → get_or marks c 0 ≡ 0) → Marked t family paths marks
+marked_none t family paths marks l z = record { long = l; each = λ b i c h g e. absurd (let n = z c g in omega arith) }
 
 -- .. and each family that key path i reaches from b is marked
-pub record Stamped (t : Table) (family : List ℕ) (paths : List (List ℕ)) (i b : ℕ) (memo : List ℕ) : Type 0 where
-  pub marked : Marked t family paths memo
-  pub all : (y : ℕ) → 0 < y → y < t.size → Down t b (get_or paths i []) y → get_or (row 4096 memo) (get_or family y 0) 0 ≡ 4 * b + i + 1
+pub record Stamped (t : Table) (family : List ℕ) (paths : List (List ℕ)) (i b : ℕ) (marks : List ℕ) : Type 0 where
+  pub marked : Marked t family paths marks
+  pub all : (y : ℕ) → 0 < y → y < t.size → Down t b (get_or paths i []) y → get_or marks (get_or family y 0) 0 ≡ 4 * b + i + 1
 
 pub record Unmarked (family marks : List ℕ) (s k : ℕ) : Type 0 where
   pub not : get_or marks (get_or family k 0) 0 ≢ s
@@ -66,23 +58,18 @@ pub record IsMarked (family marks : List ℕ) (s k : ℕ) : Type 0 where
 
 module _ (t : Table) (family : List ℕ) (paths : List (List ℕ)) (few : length paths ≤ 4) (i b s : ℕ) (within : i < length paths)
     (stamp : s ≡ 4 * b + i + 1) where
-  pub mark_more : (memo : List ℕ) (k y : ℕ) → k < 4096 → y < t.size → Down t b (get_or paths i []) y → k ≡ get_or family y 0 → Marked t family paths memo
-      → Marked t family paths (set memo (4096 + k) s)
-  mark_more memo k y h g d e m =
-      record {
-        long = length-set memo (4096 + k) s ∙ m.long;
-        each = λ p j c l o q.
-            go p j c l o (sym (ap (λ (r : List ℕ). get_or r c 0) (row_set 4096 memo k s h)) ∙ q) (ℕ_discrete c k);
-      }
+  pub mark_more : (marks : List ℕ) (k y : ℕ) → k < 4096 → y < t.size → Down t b (get_or paths i []) y → k ≡ get_or family y 0 → Marked t family paths marks
+      → Marked t family paths (set marks k s)
+  mark_more marks k y h g d e m =
+      record { long = length-set marks k s ∙ m.long; each = λ p j c l o q. go p j c l o q (ℕ_discrete c k) }
     where
-      go : (p j c : ℕ) → j < length paths → c < t.size → get_or (set (row 4096 memo) k s) c 0 ≡ 4 * p + j + 1 → Dec (c ≡ k)
+      go : (p j c : ℕ) → j < length paths → c < t.size → get_or (set marks k s) c 0 ≡ 4 * p + j + 1 → Dec (c ≡ k)
           → Meets t family p (get_or paths j []) c
-      go p j c l o q (no n) = m.each p j c l o (sym (get_or-set_other (row 4096 memo) k c s 0 n) ∙ q)
+      go p j c l o q (no n) = m.each p j c l o (sym (get_or-set_other marks k c s 0 n) ∙ q)
       go p j c l o q (yes z) =
           let u = m.long in
-          let v = row_length 4096 memo (omega arith) in
-          let w = get_or-set_same (row 4096 memo) k s 0 (omega arith) in
-          let x = sym (ap (λ (n : ℕ). get_or (set (row 4096 memo) k s) n 0) z) ∙ q in
+          let w = get_or-set_same marks k s 0 (omega arith) in
+          let x = sym (ap (λ (n : ℕ). get_or (set marks k s) n 0) z) ∙ q in
           let f : i ≡ j = omega arith in
           let a : b ≡ p = omega arith in
           record {
@@ -91,10 +78,6 @@ module _ (t : Table) (family : List ℕ) (paths : List (List ℕ)) (few : length
             down = subst (λ (n : ℕ). Down t p (get_or paths n []) y) f (subst (λ (n : ℕ). Down t n (get_or paths i []) y) a d);
             is = sym e ∙ sym z;
           }
-
--- the other row stays
-pub mark_stays : (old memo : List ℕ) (k s : ℕ) → row 0 memo ≡ row 0 old → row 0 (set memo (4096 + k) s) ≡ row 0 old
-mark_stays old memo k s e = row_behind 0 memo (4096 + k) s (omega arith) ∙ e
 
 module _ (t : Table) (path from first next : List ℕ) (lists : Hung t path from first next) where
   -- the list's next link
@@ -114,30 +97,29 @@ module _ (t : Table) (family : List ℕ) (paths : List (List ℕ)) (few : length
   mark_start marks r h e =
       along_start t.size from (Unmarked family marks s) b r some (subst (LeastChild (by_family t.size from) b 1) (sym e) (lists.firsts b h))
 
-  pub mark_next : (memo : List ℕ) (k y r : ℕ) → k < 4096 → length memo ≡ 8192 → b < t.size → 0 < y → k ≡ get_or family y 0 → r ≡ get_or next y 0
-      → Along t.size from (Unmarked family (row 4096 memo) s) b y → Along t.size from (Unmarked family (row 4096 (set memo (4096 + k) s)) s) b r
-  mark_next memo k y r h l ib p e f a =
-      subst (λ (w : List ℕ). Along t.size from (Unmarked family w s) b r) (sym (row_set 4096 memo k s h))
-      (along_next t.size from (Unmarked family (row 4096 memo) s) (Unmarked family (set (row 4096 memo) k s) s) b y r some a
+  pub mark_next : (marks : List ℕ) (k y r : ℕ) → k < 4096 → length marks ≡ 4096 → b < t.size → 0 < y → k ≡ get_or family y 0 → r ≡ get_or next y 0
+      → Along t.size from (Unmarked family marks s) b y → Along t.size from (Unmarked family (set marks k s) s) b r
+  mark_next marks k y r h l ib p e f a =
+      along_next t.size from (Unmarked family marks s) (Unmarked family (set marks k s) s) b y r some a
       (next_link t (get_or paths i []) from first next lists b y r ib p a.inside (a.hangs p) f) (λ u. u.not here)
-      (λ j u. record { not = λ z. u.not (still j z (ℕ_discrete (get_or family j 0) k)) }))
+      (λ j u. record { not = λ z. u.not (still j z (ℕ_discrete (get_or family j 0) k)) })
     where
-      put : get_or (set (row 4096 memo) k s) k 0 ≡ s
-      put = get_or-set_same (row 4096 memo) k s 0 (let w = row_length 4096 memo (omega arith) in omega arith)
+      put : get_or (set marks k s) k 0 ≡ s
+      put = get_or-set_same marks k s 0 (omega arith)
 
-      here : get_or (set (row 4096 memo) k s) (get_or family y 0) 0 ≡ s
-      here = subst (λ (n : ℕ). get_or (set (row 4096 memo) k s) n 0 ≡ s) e put
+      here : get_or (set marks k s) (get_or family y 0) 0 ≡ s
+      here = subst (λ (n : ℕ). get_or (set marks k s) n 0 ≡ s) e put
 
-      still : (j : ℕ) → get_or (row 4096 memo) (get_or family j 0) 0 ≡ s → Dec (get_or family j 0 ≡ k) → get_or (set (row 4096 memo) k s) (get_or family j 0) 0 ≡ s
-      still j z (yes w) = subst (λ (n : ℕ). get_or (set (row 4096 memo) k s) n 0 ≡ s) (sym w) put
-      still j z (no n) = get_or-set_other (row 4096 memo) k (get_or family j 0) s 0 n ∙ z
+      still : (j : ℕ) → get_or marks (get_or family j 0) 0 ≡ s → Dec (get_or family j 0 ≡ k) → get_or (set marks k s) (get_or family j 0) 0 ≡ s
+      still j z (yes w) = subst (λ (n : ℕ). get_or (set marks k s) n 0 ≡ s) (sym w) put
+      still j z (no n) = get_or-set_other marks k (get_or family j 0) s 0 n ∙ z
 
-  pub mark_all : (memo : List ℕ) (y : ℕ) → y ≡ 0 → Marked t family paths memo → Along t.size from (Unmarked family (row 4096 memo) s) b y
-      → Stamped t family paths i b memo
-  mark_all memo y z m a = record { marked = m; all = λ k p h d. go k p h d (ℕ_discrete (get_or (row 4096 memo) (get_or family k 0) 0) s) }
+  pub mark_all : (marks : List ℕ) (y : ℕ) → y ≡ 0 → Marked t family paths marks → Along t.size from (Unmarked family marks s) b y
+      → Stamped t family paths i b marks
+  mark_all marks y z m a = record { marked = m; all = λ k p h d. go k p h d (ℕ_discrete (get_or marks (get_or family k 0) 0) s) }
     where
-      go : (k : ℕ) → 0 < k → k < t.size → Down t b (get_or paths i []) k → Dec (get_or (row 4096 memo) (get_or family k 0) 0 ≡ s)
-          → get_or (row 4096 memo) (get_or family k 0) 0 ≡ 4 * b + i + 1
+      go : (k : ℕ) → 0 < k → k < t.size → Down t b (get_or paths i []) k → Dec (get_or marks (get_or family k 0) 0 ≡ s)
+          → get_or marks (get_or family k 0) 0 ≡ 4 * b + i + 1
       go k p h d (yes e) = e ∙ stamp
       go k p h d (no n) =
           absurd (let l = a.later k p h (lists.every k b p h d) (record { not = n }) in let l0 = l.0 in omega arith)
@@ -155,11 +137,11 @@ module _ (t : Table) (family : List ℕ) (paths : List (List ℕ)) (few : length
 
   module _ (κ : ℕ → Class) (tree : IsTree κ t) (top : t.size ≤ 4096) (families : Families κ t family) (simples : T (simple (get_or paths i [])))
       (a : ℕ) (ia : a < t.size) (ib : b < t.size) where
-    pub meet_found : (memo : List ℕ) (x k m : ℕ) → 0 < x → k ≡ get_or family x 0 → m ≡ get_or (row 4096 memo) k 0 → m ≡ s → Stamped t family paths i b memo
-        → Along t.size from (IsMarked family (row 4096 memo) s) a x → Tells (EqualPair κ t a b (get_or paths i [])) true
-    meet_found memo x k m p e f g st w =
+    pub meet_found : (marks : List ℕ) (x k m : ℕ) → 0 < x → k ≡ get_or family x 0 → m ≡ get_or marks k 0 → m ≡ s → Stamped t family paths i b marks
+        → Along t.size from (IsMarked family marks s) a x → Tells (EqualPair κ t a b (get_or paths i [])) true
+    meet_found marks x k m p e f g st w =
         let y = st.marked.each b i (get_or family x 0) within (families.inside x w.inside)
-        (ap (λ (j : ℕ). get_or (row 4096 memo) j 0) (sym e) ∙ sym f ∙ g ∙ stamp) in
+        (ap (λ (j : ℕ). get_or marks j 0) (sym e) ∙ sym f ∙ g ∙ stamp) in
         record {
           yes = λ h. record {
             x = x;
@@ -171,9 +153,9 @@ module _ (t : Table) (family : List ℕ) (paths : List (List ℕ)) (few : length
           no = λ h. absurd (true≢false h);
         }
 
-    pub meet_none : (memo : List ℕ) (x : ℕ) → a < b → x ≡ 0 → Stamped t family paths i b memo
-        → Along t.size from (IsMarked family (row 4096 memo) s) a x → Tells (EqualPair κ t a b (get_or paths i [])) false
-    meet_none memo x o z st w = record { yes = λ h. absurd (false≢true h); no = λ h p. never p }
+    pub meet_none : (marks : List ℕ) (x : ℕ) → a < b → x ≡ 0 → Stamped t family paths i b marks
+        → Along t.size from (IsMarked family marks s) a x → Tells (EqualPair κ t a b (get_or paths i [])) false
+    meet_none marks x o z st w = record { yes = λ h. absurd (false≢true h); no = λ h p. never p }
       where
         different : a ≢ b
         different e = omega arith
@@ -186,7 +168,7 @@ module _ (t : Table) (family : List ℕ) (paths : List (List ℕ)) (few : length
             let hy = down_inside dy ib in
             let q = pair_below tree a b (get_or paths i []) different p.x p.y dx dy p.equal hx hy in
             let c = families.equal p.x p.y hx hy p.equal in
-            let m = ap (λ (j : ℕ). get_or (row 4096 memo) j 0) c ∙ st.all p.y q.1 hy dy ∙ sym stamp in
+            let m = ap (λ (j : ℕ). get_or marks j 0) c ∙ st.all p.y q.1 hy dy ∙ sym stamp in
             let l = w.later p.x q.0 hx (lists.every p.x a q.0 hx dx) (record { is = m }) in
             let l0 = l.0 in
             omega arith

@@ -1,6 +1,6 @@
-// Value-equal pairs below two nodes (document 01, "A tree keeps the key if .. some P in S has no value-equal pair x, y with x reached from a and y
-// from b by P").
+// Value-equal pairs below two nodes: "A tree keeps the key if .. some P in S has no value-equal pair x, y with x reached from a and y from b by P".
 #![tactic(auto)]
 
 pub mod memo;
 pub mod pairs;
+pub mod reach;

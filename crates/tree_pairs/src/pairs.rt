@@ -3,124 +3,81 @@
 ghost use Rattle.std.specs.Prelude.{◌≡◌, [], ◌+◌, ◌*◌, ◌<◌, length, get_or};
 ghost use Rattle.meaning.specs.Lists.{Each};
 ghost use Rattle.meaning.specs.Keys.{EqualPair};
-ghost use Rattle.meaning.specs.Records.{key_in};
-ghost use Rattle.tree_table.specs.FileTable.{file_table, class_by};
 ghost use Rattle.tree_table.specs.Tells.{Tells};
-ghost use Rattle.tree_rows.specs.Rows.{row};
-ghost use Rattle.tree_pairs.specs.Marks.{Hanging, Marked, Stamped};
+ghost use Rattle.tree_pairs.specs.Marks.{Marked, Stamped};
+ghost use Rattle.tree_pairs.specs.Reach.{Hangs, tree_of, classes_of, key_of};
 
-use crate::memo::{MARKS, MEMO, recall};
+use crate::memo::Memo;
+use crate::reach::Reach;
 use read_record::keys::count;
-use tree_rows::hung::{HUNG, first_hung, next_hung};
-use tree_rows::rows::{ROWS, family_of};
+use read_record::limits::TREE_NODES;
 
 // The mark of key path i and node b, of no other path and node: 0 stands for none.
-fn stamp(i: usize, b: usize) -> usize
+fn stamp(i: usize, b: usize) -> u16
     requires { (i < 4) × (b < 4096) }
-    ensures { (result ≡ 4 * b + i + 1) × (result < 65536) }
+    ensures { result ≡ 4 * b + i + 1 }
 {
-    4 * b + i + 1
+    (4 * b + i + 1) as u16
 }
 
 // Marks the family of each node that key path i reaches from b.
-fn mark(
-    tree: &[u8],
-    classes: &[u8; 256],
-    rows: &[u16; ROWS],
-    hung: &[u16; HUNG],
-    body: &[u8],
-    memo: &mut [u16; MEMO],
-    i: usize,
-    b: usize,
-)
-    requires hanging { Hanging classes.now tree.now rows.now hung.now body.now × (i < length (key_in body.now).paths) × (b < (file_table tree.now).size) }
-    requires marked { Marked (file_table tree.now) (row 16384 rows.now) (key_in body.now).paths memo.old }
-    ensures { Stamped (file_table tree.now) (row 16384 rows.now) (key_in body.now).paths i b memo.new
-        × (row 0 memo.new ≡ row 0 memo.old) }
+fn mark(reach: &Reach, marks: &mut [u16; TREE_NODES], i: usize, b: usize)
+    requires hanging { Hangs reach.now × (i < length (key_of reach.now).paths) × (b < (tree_of reach.now).size) }
+    requires marked { Marked (tree_of reach.now) reach.now.rows.now.family (key_of reach.now).paths marks.old }
+    ensures { Stamped (tree_of reach.now) reach.now.rows.now.family (key_of reach.now).paths i b marks.new }
 {
     let own = stamp(i, b);
-    let mut y = first_hung(hung, i, b);
+    let list = &reach.hung[i];
+    let mut y = usize::from(list.first[b]);
+    // Stays a `while`: because a list by links counts nothing.
     while y != 0 {
-        let family = family_of(rows, y);
-        memo[MARKS + family] = own as u16;
-        y = next_hung(hung, i, y);
+        marks[reach.rows.family_of(y)] = own;
+        y = usize::from(list.next[y]);
     }
 }
 
 // Key path i reaches a node of a marked family from a.
-fn meets(
-    tree: &[u8],
-    classes: &[u8; 256],
-    rows: &[u16; ROWS],
-    hung: &[u16; HUNG],
-    body: &[u8],
-    memo: &[u16; MEMO],
-    i: usize,
-    a: usize,
-    b: usize,
-) -> bool
-    requires hanging { Hanging classes.now tree.now rows.now hung.now body.now × (i < length (key_in body.now).paths) × (a < b) × (b < (file_table tree.now).size) }
-    requires stamped { Stamped (file_table tree.now) (row 16384 rows.now) (key_in body.now).paths i b memo.now }
-    ensures { Tells (EqualPair (class_by classes.now) (file_table tree.now) a b (get_or (key_in body.now).paths i [])) result }
+fn meets(reach: &Reach, marks: &[u16; TREE_NODES], i: usize, a: usize, b: usize) -> bool
+    requires hanging { Hangs reach.now × (i < length (key_of reach.now).paths) × (a < b) × (b < (tree_of reach.now).size) }
+    requires stamped { Stamped (tree_of reach.now) reach.now.rows.now.family (key_of reach.now).paths i b marks.now }
+    ensures { Tells (EqualPair (classes_of reach.now) (tree_of reach.now) a b (get_or (key_of reach.now).paths i [])) result }
 {
     let wanted = stamp(i, b);
-    let mut x = first_hung(hung, i, a);
+    let list = &reach.hung[i];
+    let mut x = usize::from(list.first[a]);
+    // Stays a `while`: because a list by links counts nothing.
     while x != 0 {
-        let family = family_of(rows, x);
-        if recall(memo, MARKS, family) == wanted {
+        if marks[reach.rows.family_of(x)] == wanted {
             return true;
         }
-        x = next_hung(hung, i, x);
+        x = usize::from(list.next[x]);
     }
     false
 }
 
 // Key path i has a value-equal pair below a and b.
-fn agree(
-    tree: &[u8],
-    classes: &[u8; 256],
-    rows: &[u16; ROWS],
-    hung: &[u16; HUNG],
-    body: &[u8],
-    memo: &mut [u16; MEMO],
-    i: usize,
-    a: usize,
-    b: usize,
-) -> bool
-    requires hanging { Hanging classes.now tree.now rows.now hung.now body.now × (i < length (key_in body.now).paths) × (a < b) × (b < (file_table tree.now).size) }
-    requires marked { Marked (file_table tree.now) (row 16384 rows.now) (key_in body.now).paths memo.old }
-    ensures { Tells (EqualPair (class_by classes.now) (file_table tree.now) a b (get_or (key_in body.now).paths i [])) result
-        × Marked (file_table tree.now) (row 16384 rows.now) (key_in body.now).paths memo.new
-        × (row 0 memo.new ≡ row 0 memo.old) }
+fn agree(reach: &Reach, marks: &mut [u16; TREE_NODES], i: usize, a: usize, b: usize) -> bool
+    requires hanging { Hangs reach.now × (i < length (key_of reach.now).paths) × (a < b) × (b < (tree_of reach.now).size) }
+    requires marked { Marked (tree_of reach.now) reach.now.rows.now.family (key_of reach.now).paths marks.old }
+    ensures { Tells (EqualPair (classes_of reach.now) (tree_of reach.now) a b (get_or (key_of reach.now).paths i [])) result
+        × Marked (tree_of reach.now) reach.now.rows.now.family (key_of reach.now).paths marks.new }
 {
-    mark(tree, classes, rows, hung, body, memo, i, b);
-    meets(tree, classes, rows, hung, body, &*memo, i, a, b)
+    mark(reach, marks, i, b);
+    meets(reach, &*marks, i, a, b)
 }
 
 // Each key path of the key has a value-equal pair below a and b. What else is remembered stays.
-pub fn agree_all(
-    tree: &[u8],
-    classes: &[u8; 256],
-    rows: &[u16; ROWS],
-    hung: &[u16; HUNG],
-    body: &[u8],
-    memo: &mut [u16; MEMO],
-    a: usize,
-    b: usize,
-) -> bool
-    requires hanging { Hanging classes.now tree.now rows.now hung.now body.now × (a < b) × (b < (file_table tree.now).size) }
-    requires marked { Marked (file_table tree.now) (row 16384 rows.now) (key_in body.now).paths memo.old }
-    ensures { Tells (Each (EqualPair (class_by classes.now) (file_table tree.now) a b) (key_in body.now).paths) result
-        × Marked (file_table tree.now) (row 16384 rows.now) (key_in body.now).paths memo.new
-        × (row 0 memo.new ≡ row 0 memo.old) }
+pub fn agree_all(reach: &Reach, memo: &mut Memo, a: usize, b: usize) -> bool
+    requires hanging { Hangs reach.now × (a < b) × (b < (tree_of reach.now).size) }
+    requires marked { Marked (tree_of reach.now) reach.now.rows.now.family (key_of reach.now).paths memo.old.marks }
+    ensures { Tells (Each (EqualPair (classes_of reach.now) (tree_of reach.now) a b) (key_of reach.now).paths) result
+        × Marked (tree_of reach.now) reach.now.rows.now.family (key_of reach.now).paths memo.new.marks
+        × (memo.new.seen ≡ memo.old.seen) }
 {
-    let paths = count(body);
-    let mut i = 0;
-    while i < paths {
-        if !agree(tree, classes, rows, hung, body, memo, i, a, b) {
+    for i in 0..count(reach.body) {
+        if !agree(reach, &mut memo.marks, i, a, b) {
             return false;
         }
-        i += 1;
     }
     true
 }

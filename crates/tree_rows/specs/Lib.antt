@@ -1,7 +1,6 @@
--- Tables in rows of one flat array, and the rows of a tree.
-pub mod Rows
+-- The rows of a tree, and lists by owner.
 pub mod Families
 pub mod Chain
 pub mod Prepared
+pub mod Indexed
 pub mod Hung
-pub mod Filled

@@ -1,8 +1,7 @@
 -- The search for the first context and targets: the targets in their order, each with its least mate. One law for each turn of the loop.
-use Rattle.std.specs.Prelude.{ℕ, ◌+◌, ◌<◌, ◌≤◌, ◌≡◌, ◌≢◌, List, Bool, true, false, get_or}
-use Rattle.std.proofs.Common.{sym, ap, subst, arith, true≢false}
+use Rattle.std.specs.Prelude.{ℕ, ◌+◌, ◌<◌, ◌≤◌, ◌≡◌, ◌≢◌, refl, List, Option, None, Some, MatchOption, get_or}
+use Rattle.std.proofs.Common.{sym, ap, subst, arith}
 use Rattle.std.proofs.Math.Decide.{dec_lt, ℕ_discrete}
-use Rattle.std.proofs.lemmas.Bool.{false≢true}
 use Rattle.meaning.specs.Paths.{Class}
 use Rattle.meaning.specs.Trees.{Table, IsTree}
 use Rattle.meaning.specs.Keys.{Key, Breaks}
@@ -10,6 +9,7 @@ use Rattle.theory_trees.specs.Reach.{reached_inside}
 use Rattle.tree_contexts.specs.Tops.{Tops, tops_at}
 use Rattle.theory_trees.specs.Agreeing.{Agreeing, swap_agreeing}
 use Rattle.theory_trees.specs.Witness.{FirstTargets}
+use Rattle.tree_search.specs.declared.search.BrokenAt.{BrokenAt}
 
 -- b is the least target behind a that agrees with it; 4,096 where there is none
 pub record MateIs (κ : ℕ → Class) (t : Table) (key : Key) (tops : List ℕ) (a b : ℕ) : Type 0 where
@@ -150,17 +150,14 @@ module _ (κ : ℕ → Class) (t : Table) (key : Key) (tops : List ℕ) (tree : 
               at (no e) = omega arith
 
 -- What the search answers: the first context and targets, or that the tree keeps the key
-pub record FirstBy (κ : ℕ → Class) (t : Table) (key : Key) (found : Bool) (q a b : ℕ) : Type 0 where
-  pub yes : found ≡ true → FirstTargets κ t key q a b
-  pub no : found ≡ false → Breaks κ t key → ⊥
+abbrev pub FirstBy : (ℕ → Class) → Table → Key → Option BrokenAt → Type 0
+FirstBy κ t key found = MatchOption found (Breaks κ t key → ⊥) (λ f. FirstTargets κ t key f.context f.first f.second)
 
-module _ (κ : ℕ → Class) (t : Table) (key : Key) (tops : List ℕ) (tree : IsTree κ t) (few : t.size ≤ 4096)
-    (highest : Tops t key.context key.target tops) (n q a b : ℕ) (all : t.size ≤ n) (s : Best κ t key tops n q a b) where
-  pub first_found : q < 4096 → FirstBy κ t key true q a b
-  first_found h = record { yes = λ e. best_found κ t key tops tree few highest n q a b all s h; no = λ e. absurd (true≢false e) }
-
-  pub first_none : (x y z : ℕ) → 4096 ≤ q → FirstBy κ t key false x y z
-  first_none x y z h = record { yes = λ e. absurd (false≢true e); no = λ e. best_kept κ t key tops tree few highest n q a b all s h }
+-- The best of the pairs so far, where there is one, and its context; else context 4,096
+abbrev pub BestBy : (ℕ → Class) → Table → Key → List ℕ → ℕ → ℕ → Option BrokenAt → Type 0
+BestBy κ t key tops n best found =
+    MatchOption found ((best ≡ 4096) × Best κ t key tops n best 0 0)
+    (λ f. (best < 4096) × (f.context ≡ best) × Best κ t key tops n best f.first f.second)
 
 -- One law for each way on of the loop
 module _ (κ : ℕ → Class) (t : Table) (key : Key) (tops : List ℕ) (tree : IsTree κ t) (few : t.size ≤ 4096)
@@ -187,3 +184,33 @@ module _ (κ : ℕ → Class) (t : Table) (key : Key) (tops : List ℕ) (tree : 
       → Best κ t key tops (n + 1) own n m
   best_better own m e h k i w =
       subst (λ (o : ℕ). Best κ t key tops (n + 1) o n m) (sym e) (best_take κ t key tops n q a b m s (omega arith) (omega arith) w i)
+
+module _ (κ : ℕ → Class) (t : Table) (key : Key) (tops : List ℕ) (tree : IsTree κ t) (few : t.size ≤ 4096)
+    (highest : Tops t key.context key.target tops) (n best : ℕ) where
+  pub by_later : (found : Option BrokenAt) (own : ℕ) → n < t.size → own ≡ get_or tops n 0 → best ≤ own → BestBy κ t key tops n best found
+      → BestBy κ t key tops (n + 1) best found
+  by_later None own i e h b = (b.0, best_later κ t key tops tree few highest n best 0 0 i b.1 own e h)
+  by_later (Some f) own i e h b = (b.0, b.1, best_later κ t key tops tree few highest n best f.first f.second i b.2 own e h)
+
+  pub by_unmated : (found : Option BrokenAt) (m : ℕ) → n < t.size → 4096 ≤ m → MateIs κ t key tops n m → BestBy κ t key tops n best found
+      → BestBy κ t key tops (n + 1) best found
+  by_unmated None m i h w b = (b.0, best_unmated κ t key tops tree few highest n best 0 0 i b.1 m h w)
+  by_unmated (Some f) m i h w b = (b.0, b.1, best_unmated κ t key tops tree few highest n best f.first f.second i b.2 m h w)
+
+  pub by_better : (found : Option BrokenAt) (own m : ℕ) → n < t.size → own ≡ get_or tops n 0 → own < best → m < 4096 → MateIs κ t key tops n m
+      → BestBy κ t key tops n best found → BestBy κ t key tops (n + 1) own (Some (record { context = own; first = n; second = m }))
+  by_better None own m i e h k w b =
+      let f = b.0 in
+      let l : own < 4096 = omega arith in
+      (l, refl, best_better κ t key tops tree few highest n best 0 0 i b.1 own m e h l k w)
+  by_better (Some f) own m i e h k w b =
+      let g = b.0 in
+      let l : own < 4096 = omega arith in
+      (l, refl, best_better κ t key tops tree few highest n best f.first f.second i b.2 own m e h l k w)
+
+  -- all targets
+  pub by_all : (found : Option BrokenAt) → t.size ≤ n → BestBy κ t key tops n best found → FirstBy κ t key found
+  by_all None all b = best_kept κ t key tops tree few highest n best 0 0 all b.1 (let e = b.0 in omega arith)
+  by_all (Some f) all b =
+      subst (λ (q : ℕ). FirstTargets κ t key q f.first f.second) (sym b.1)
+      (best_found κ t key tops tree few highest n best f.first f.second all b.2 b.0)

@@ -14,7 +14,6 @@ use Rattle.tree_table.specs.Links.{LeastChild, Linked}
 use Rattle.tree_rows.specs.Families.{Families}
 use Rattle.tree_rows.specs.Chain.{by_family, NextIn, next_in}
 use Rattle.tree_contexts.specs.Tops.{Tops, tops_at, tops_equal}
-use Rattle.tree_rows.specs.Rows.{row, row_set}
 use Rattle.tree_rows.specs.Hung.{Hung}
 use Rattle.theory_trees.specs.Agreeing.{Agreeing}
 use Rattle.tree_sorted.specs.Groups.{Grouped, Numbered, ends, ends_number}
@@ -135,12 +134,10 @@ module _ (κ : ℕ → Class) (t : Table) (key : Key) (from number : List ℕ) (
       looked k b e (yes z) = subst (Looked κ t key from number a less) (sym z) l
       looked k b e (no n) = looked_less g (s.looked k b (sym (get_or-set_other seen f k (a + 1) 0 n) ∙ e))
 
-  -- .. in the first row of what is remembered
-  pub seen_put : (least less f : ℕ) (old memo : List ℕ) → f < 4096 → less ≤ least → Looked κ t key from number a less f → row 0 memo ≡ row 0 old
-      → Seen κ t key from number a least (row 0 old) → Seen κ t key from number a less (row 0 (set memo (0 + f) (a + 1)))
-  seen_put least less f old memo h g l e s =
-      subst (Seen κ t key from number a less) (sym (row_set 0 memo f (a + 1) h))
-      (seen_more least less f (row 0 memo) h g l (subst (Seen κ t key from number a least) (sym e) s))
+  -- .. in what is remembered, which stood as before
+  pub seen_put : (least less f : ℕ) (old seen : List ℕ) → f < 4096 → less ≤ least → Looked κ t key from number a less f → seen ≡ old
+      → Seen κ t key from number a least old → Seen κ t key from number a less (set seen f (a + 1))
+  seen_put least less f old seen h g l e s = seen_more least less f seen h g l (subst (Seen κ t key from number a least) (sym e) s)
 
 -- At node y of the chain of number f; 0 behind its end
 pub record Chasing (κ : ℕ → Class) (t : Table) (key : Key) (tops from number : List ℕ) (a f start least y : ℕ) : Type 0 where

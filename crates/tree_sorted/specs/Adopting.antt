@@ -1,13 +1,13 @@
 -- A key path that reaches at most one node from each target: each target takes that node's number for its group.
 use Rattle.std.specs.Prelude.{ℕ, ◌+◌, ◌<◌, ◌≤◌, ◌≡◌, refl, Bool, true, false, List, length, get_or, set}
-use Rattle.std.proofs.Common.{sym, ◌∙◌, ap, subst, length-set, get_or-set_same, get_or-set_other}
+use Rattle.std.proofs.Common.{sym, ◌∙◌, ap, subst, get_or-set_same, get_or-set_other}
 use Rattle.std.proofs.lemmas.Bool.{false≢true}
 use native.Mathlib.Omega.{arith}
 use Rattle.std.proofs.Math.Decide.{ℕ_discrete}
 use Rattle.meaning.specs.Trees.{Table, Child}
 use Rattle.theory_trees.specs.Below.{ParentsSmaller, down_greater}
 use Rattle.tree_rows.specs.Chain.{by_family}
-use Rattle.tree_rows.specs.Rows.{row, row_set, row_length, row_apart}
+use Rattle.tree_sorted.specs.declared.sorted.Sorted.{Sorted}
 use Rattle.tree_rows.specs.Hung.{Hung}
 use Rattle.tree_sorted.specs.Hung.{HungFrom}
 use Rattle.tree_sorted.specs.Groups.{Adopted}
@@ -99,21 +99,9 @@ pub single_all : (count : ℕ) (from group first : List ℕ) (n : ℕ) → count
 single_all count from group first n h s = record { one = λ a b. s.one a (omega arith) }
 
 -- Contexts and numbers stay
-pub record NumbersStay (old new : List ℕ) : Type 0 where
-  pub long : length new ≡ 24576
-  pub tops : row 0 new ≡ row 0 old
-  pub numbers : row 8192 new ≡ row 8192 old
-
-pub numbers_start : (old : List ℕ) → length old ≡ 24576 → NumbersStay old old
-numbers_start old l = record { long = l; tops = refl; numbers = refl }
-
-pub numbers_store : (old new : List ℕ) (a x : ℕ) → a < 4096 → NumbersStay old new → NumbersStay old (set new (4096 + a) x)
-numbers_store old new a x h s =
-    record {
-      long = length-set new (4096 + a) x ∙ s.long;
-      tops = row_apart 0 new (4096 + a) x (λ p q. omega arith) ∙ s.tops;
-      numbers = row_apart 8192 new (4096 + a) x (λ p q. omega arith) ∙ s.numbers;
-    }
+pub record NumbersStay (old new : Sorted) : Type 0 where
+  pub tops : new.top ≡ old.top
+  pub numbers : new.number ≡ old.number
 
 -- The targets below n have their node's number
 pub record AdoptedTo (count : ℕ) (from old number new : List ℕ) (n : ℕ) : Type 0 where
@@ -156,34 +144,23 @@ module _ (count : ℕ) (from old number : List ℕ) where
           ∙ h x (subst (λ (j : ℕ). get_or old j 0 < count) z k) p i (f ∙ z)
 
 -- the stores as the code makes them
-module _ (count : ℕ) (from first next old sorted start : List ℕ) (few : count ≤ 4096) (stay : NumbersStay start sorted)
+module _ (count : ℕ) (from first next old number new now : List ℕ) (stay : now ≡ number) (long : length new ≡ 4096) (few : count ≤ 4096)
     (lists : HungFrom count from first next 1) (single : SingleTo count from old first count) (n x : ℕ) (inside : n < count)
-    (is : x ≡ get_or first n 0) (s : AdoptedTo count from old (row 8192 start) (row 4096 sorted) n) where
-  put_row : (r : ℕ) → AdoptedTo count from old (row 8192 start) (set (row 4096 sorted) n r) (n + 1)
-      → AdoptedTo count from old (row 8192 start) (row 4096 (set sorted (4096 + n) r)) (n + 1)
-  put_row r k =
-      subst (λ (l : List ℕ). AdoptedTo count from old (row 8192 start) l (n + 1)) (sym (row_set 4096 sorted n r (omega arith))) k
-
-  long : length (row 4096 sorted) ≡ 4096
-  long = row_length 4096 sorted (let l = stay.long in omega arith)
-
-  pub adopt_none : x ≡ 0 → AdoptedTo count from old (row 8192 start) (row 4096 (set sorted (4096 + n) 4096)) (n + 1)
+    (is : x ≡ get_or first n 0) (s : AdoptedTo count from old number new n) where
+  pub adopt_none : x ≡ 0 → AdoptedTo count from old number (set new n 4096) (n + 1)
   unfolding by_family
   adopt_none z =
-      put_row 4096
-      (adopted_put count from old (row 8192 start) (row 4096 sorted) n 4096 (let l = long in omega arith)
+      adopted_put count from old number new n 4096 (omega arith)
       (λ y k p i e. absurd
       (let l = ((lists.firsts n inside).skipped y (omega arith) (record { not_root = p; inside = i; below = e })).0 in omega arith))
-      s)
+      s
 
-  pub adopt_one : (r : ℕ) → r ≡ get_or (row 8192 sorted) x 0
-      → AdoptedTo count from old (row 8192 start) (row 4096 (set sorted (4096 + n) r)) (n + 1)
+  pub adopt_one : (r : ℕ) → r ≡ get_or now x 0 → AdoptedTo count from old number (set new n r) (n + 1)
   adopt_one r e =
-      put_row r
-      (adopted_put count from old (row 8192 start) (row 4096 sorted) n r (let l = long in omega arith)
-      (λ y k p i f. e ∙ ap (λ (l : List ℕ). get_or l x 0) stay.numbers
-      ∙ ap (λ (j : ℕ). get_or (row 8192 start) j 0) (is ∙ sym (single.one n inside k y p i f)))
-      s)
+      adopted_put count from old number new n r (omega arith)
+      (λ y k p i f. e ∙ ap (λ (l : List ℕ). get_or l x 0) stay
+      ∙ ap (λ (j : ℕ). get_or number j 0) (is ∙ sym (single.one n inside k y p i f)))
+      s
 
 -- all targets, by the path
 pub adopted_path : (t : Table) (path from first next old number new : List ℕ) (n : ℕ) → ParentsSmaller t → t.size ≤ n

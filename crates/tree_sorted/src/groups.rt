@@ -1,13 +1,11 @@
 // Groups of targets: two targets that agree stand in one group, so that the search compares few. Groups only have to be complete, so any key path
 // may refine them that reaches at most one node from each target, and any may be the pivot that the search goes along.
-ghost use Rattle.std.specs.Prelude.{◌≡◌, ℕ, ◌+◌, ◌*◌, ◌<◌, ◌≤◌, length, get_or};
+ghost use Rattle.std.specs.Prelude.{◌≡◌, ℕ, ◌<◌, ◌≤◌, length, get_or};
 ghost use Rattle.meaning.specs.Records.{key_in};
-ghost use Rattle.tree_table.specs.FileTable.{file_table, class_by};
 ghost use Rattle.tree_table.specs.Links.{Linked};
 ghost use Rattle.tree_rows.specs.Chain.{by_family};
-ghost use Rattle.tree_rows.specs.Rows.{row};
 ghost use Rattle.tree_rows.specs.Hung.{HungAll};
-ghost use Rattle.tree_rows.specs.Prepared.{Prepared};
+ghost use Rattle.tree_rows.specs.Indexed.{Ready, table_in, classes_in};
 ghost use Rattle.tree_sorted.specs.GoodKey.{GoodKey};
 ghost use Rattle.tree_sorted.specs.Hung.{HungFrom};
 ghost use Rattle.tree_sorted.specs.Groups.{Grouped};
@@ -15,174 +13,131 @@ ghost use Rattle.tree_sorted.specs.Adopting.{Surely, Several, SingleTo, NumbersS
 ghost use Rattle.tree_sorted.specs.Chains.{TopsStay, ChainStays, ClearTo, SortedBy};
 
 use crate::numbers::number_nodes;
-use crate::sorted::{CHAIN, GROUP, LEAD, NUMBER, SORTED, entry};
+use crate::sorted::Sorted;
 use read_record::keys::count;
-use tree_rows::hung::{HUNG, first_hung, next_hung};
-use tree_rows::rows::ROWS;
+use tree_rows::hang::hang_under;
+use tree_rows::hung::Hung;
+use tree_rows::indexed::Indexed;
 use tree_table::fields::size;
 
-// More than there can be nodes that share a number.
-const MANY: usize = 16777217;
+// No group, in a row: more than there are nodes.
+const NO_GROUP: u16 = 4096;
 
-// Key path i reaches several nodes from a.
-fn is_several(hung: &[u16; HUNG], i: usize, count: usize, a: usize) -> bool
-    requires { (i < 4) × (count ≤ 4096) × (a < count) × HungFrom count (row (12288 * i) hung.now) (row (12288 * i + 4096) hung.now) (row (12288 * i + 8192) hung.now) 1 }
-    ensures { Several count (row (12288 * i) hung.now) (row (12288 * i + 4096) hung.now) a result }
+// A key path reaches several nodes from a.
+fn is_several(list: &Hung, count: usize, a: usize) -> bool
+    requires { (count ≤ 4096) × (a < count) × HungFrom count list.now.from list.now.first list.now.next 1 }
+    ensures { Several count list.now.from list.now.first a result }
 {
-    let x = first_hung(hung, i, a);
-    if x == 0 {
-        return false;
-    }
-    next_hung(hung, i, x) != 0
+    let x = usize::from(list.first[a]);
+    x != 0 && list.next[x] != 0
 }
 
-// No target has two nodes of key path i.
-fn is_single(hung: &[u16; HUNG], sorted: &[u16; SORTED], i: usize, count: usize) -> bool
-    requires { (i < 4) × (count ≤ 4096) × HungFrom count (row (12288 * i) hung.now) (row (12288 * i + 4096) hung.now) (row (12288 * i + 8192) hung.now) 1 }
-    ensures { Surely (SingleTo count (row (12288 * i) hung.now) (row 4096 sorted.now) (row (12288 * i + 4096) hung.now) count) result }
+// No target has two nodes of a key path.
+fn is_single(list: &Hung, sorted: &Sorted, count: usize) -> bool
+    requires { (count ≤ 4096) × HungFrom count list.now.from list.now.first list.now.next 1 }
+    ensures { Surely (SingleTo count list.now.from sorted.now.group list.now.first count) result }
 {
-    let mut a = 0;
-    while a < count {
-        if entry(sorted, GROUP, a) < count {
-            if is_several(hung, i, count, a) {
-                return false;
-            }
-            a += 1;
-        } else {
-            a += 1;
+    for a in 0..count {
+        if usize::from(sorted.group[a]) < count && is_several(list, count, a) {
+            return false;
         }
     }
     true
 }
 
 // Each target into the group that its one node's number says.
-fn adopt(hung: &[u16; HUNG], i: usize, count: usize, sorted: &mut [u16; SORTED])
-    requires i_bound { (i < 4) × (count ≤ 4096) × (length sorted.old ≡ 24576) × HungFrom count (row (12288 * i) hung.now) (row (12288 * i + 4096) hung.now) (row (12288 * i + 8192) hung.now) 1 }
-    requires single_to { SingleTo count (row (12288 * i) hung.now) (row 4096 sorted.old) (row (12288 * i + 4096) hung.now) count }
-    ensures { AdoptedTo count (row (12288 * i) hung.now) (row 4096 sorted.old) (row 8192 sorted.old) (row 4096 sorted.new) count
-        × NumbersStay sorted.old sorted.new }
+fn adopt(list: &Hung, count: usize, sorted: &mut Sorted)
+    requires count_bound { (count ≤ 4096) × HungFrom count list.now.from list.now.first list.now.next 1 }
+    requires single_to { SingleTo count list.now.from sorted.old.group list.now.first count }
+    ensures { AdoptedTo count list.now.from sorted.old.group sorted.old.number sorted.new.group count × NumbersStay sorted.old sorted.new }
 {
-    let mut a = 0;
-    while a < count {
-        if entry(&*sorted, GROUP, a) < count {
-            let x = first_hung(hung, i, a);
+    for a in 0..count {
+        if usize::from(sorted.group[a]) < count {
+            let x = usize::from(list.first[a]);
             if x == 0 {
-                sorted[GROUP + a] = 4096;
-                a += 1;
+                sorted.group[a] = NO_GROUP;
             } else {
-                let own = entry(&*sorted, NUMBER, x);
-                sorted[GROUP + a] = own as u16;
-                a += 1;
+                sorted.group[a] = sorted.number[x];
             }
-        } else {
-            a += 1;
         }
     }
 }
 
 // Key path i refines the groups where it reaches at most one node from each target; else it says how many of its nodes share a number.
 fn refine(
-    tree: &[u8],
-    classes: &[u8; 256],
-    rows: &[u16; ROWS],
+    indexed: &Indexed,
     body: &[u8],
-    hung: &[u16; HUNG],
+    hung: &[Hung; 4],
     i: usize,
-    sorted: &mut [u16; SORTED],
-) -> usize
-    requires prepared { Prepared classes.now tree.now rows.now × GoodKey body.now × HungAll (file_table tree.now) (key_in body.now).paths hung.now }
-    requires i_in_bounds { (i < length (key_in body.now).paths) × (length sorted.old ≡ 24576) × Grouped (class_by classes.now) (file_table tree.now) (key_in body.now) (row 4096 sorted.old) }
-    ensures { Grouped (class_by classes.now) (file_table tree.now) (key_in body.now) (row 4096 sorted.new) × TopsStay sorted.old sorted.new }
+    sorted: &mut Sorted,
+) -> Option<usize>
+    requires prepared { Ready indexed.now × GoodKey body.now × HungAll (table_in indexed.now) (key_in body.now).paths hung.now }
+    requires i_in_bounds { (i < length (key_in body.now).paths) × Grouped (classes_in indexed.now) (table_in indexed.now) (key_in body.now) sorted.old.group }
+    ensures { Grouped (classes_in indexed.now) (table_in indexed.now) (key_in body.now) sorted.new.group × TopsStay sorted.old sorted.new }
 {
-    let shared = number_nodes(tree, classes, rows, hung, i, sorted);
-    let nodes = size(tree);
-    if is_single(hung, &*sorted, i, nodes) {
-        adopt(hung, i, nodes, sorted);
-        return MANY;
+    let list = &hung[i];
+    let shared = number_nodes(indexed, list, sorted);
+    let nodes = size(indexed.tree);
+    if is_single(list, &*sorted, nodes) {
+        adopt(list, nodes, sorted);
+        return None;
     }
-    shared
+    Some(shared)
 }
 
 // The key path that the search goes along: the first where no other reaches several nodes from a target, else the one whose nodes share the fewest
 // numbers. The others refine the groups where they can.
-fn choose_pivot(
-    tree: &[u8],
-    classes: &[u8; 256],
-    rows: &[u16; ROWS],
-    body: &[u8],
-    hung: &[u16; HUNG],
-    sorted: &mut [u16; SORTED],
-) -> usize
-    requires prepared { Prepared classes.now tree.now rows.now × GoodKey body.now × HungAll (file_table tree.now) (key_in body.now).paths hung.now }
-    requires sorted_len { (length sorted.old ≡ 24576) × Grouped (class_by classes.now) (file_table tree.now) (key_in body.now) (row 4096 sorted.old) }
-    ensures { (result < length (key_in body.now).paths) × Grouped (class_by classes.now) (file_table tree.now) (key_in body.now) (row 4096 sorted.new) × TopsStay sorted.old sorted.new }
+fn choose_pivot(indexed: &Indexed, body: &[u8], hung: &[Hung; 4], sorted: &mut Sorted) -> usize
+    requires prepared { Ready indexed.now × GoodKey body.now × HungAll (table_in indexed.now) (key_in body.now).paths hung.now }
+    requires grouped { Grouped (classes_in indexed.now) (table_in indexed.now) (key_in body.now) sorted.old.group }
+    ensures { (result < length (key_in body.now).paths) × Grouped (classes_in indexed.now) (table_in indexed.now) (key_in body.now) sorted.new.group × TopsStay sorted.old sorted.new }
 {
-    let paths = count(body);
     let mut pivot = 0;
-    let mut fewest = MANY;
-    let mut i = 1;
-    while i < paths {
-        let shared = refine(tree, classes, rows, body, hung, i, sorted);
-        if shared < fewest {
-            pivot = i;
-            fewest = shared;
-            i += 1;
-        } else {
-            i += 1;
+    let mut fewest = usize::MAX;
+    for i in 1..count(body) {
+        if let Some(shared) = refine(indexed, body, hung, i, sorted) {
+            if shared < fewest {
+                pivot = i;
+                fewest = shared;
+            }
         }
     }
     if pivot == 0 {
         return 0;
     }
-    let shared = refine(tree, classes, rows, body, hung, 0, sorted);
-    if shared < fewest {
-        return 0;
+    match refine(indexed, body, hung, 0, sorted) {
+        Some(shared) if shared < fewest => 0,
+        _ => pivot,
     }
-    pivot
 }
 
 // No number has a node yet.
-fn clear_leads(nodes: usize, sorted: &mut [u16; SORTED])
-    requires { (nodes ≤ 4096) × (length sorted.old ≡ 24576) }
-    ensures { ClearTo (row 20480 sorted.new) nodes × ChainStays sorted.old sorted.new }
+fn clear_leads(nodes: usize, sorted: &mut Sorted)
+    requires { nodes ≤ 4096 }
+    ensures { ClearTo sorted.new.lead nodes × ChainStays sorted.old sorted.new }
 {
-    let mut v = 0;
-    while v < nodes {
-        sorted[LEAD + v] = 0;
-        v += 1;
+    for v in 0..nodes {
+        sorted.lead[v] = 0;
     }
 }
 
 // To each number its nodes, ascending.
-fn chain_numbers(nodes: usize, sorted: &mut [u16; SORTED])
-    requires { (0 < nodes) × (nodes ≤ 4096) × (length sorted.old ≡ 24576) × ((x : ℕ) → x < nodes → get_or (row 8192 sorted.old) x 0 ≤ x) }
-    ensures { Linked (by_family nodes (row 8192 sorted.old)) (row 20480 sorted.new) (row 12288 sorted.new) × ChainStays sorted.old sorted.new }
+fn chain_numbers(nodes: usize, sorted: &mut Sorted)
+    requires { (0 < nodes) × (nodes ≤ 4096) × ((x : ℕ) → x < nodes → get_or sorted.old.number x 0 ≤ x) }
+    ensures { Linked (by_family nodes sorted.old.number) sorted.new.lead sorted.new.chain × ChainStays sorted.old sorted.new }
 {
     clear_leads(nodes, sorted);
-    let mut x = nodes;
-    while 1 < x {
-        x -= 1;
-        let own = entry(&*sorted, NUMBER, x);
-        sorted[CHAIN + x] = sorted[LEAD + own];
-        sorted[LEAD + own] = x as u16;
-    }
+    hang_under(&sorted.number, nodes, &mut sorted.lead, &mut sorted.chain);
 }
 
 // The groups as far as they can be refined, the pivot, its nodes numbered, and the nodes of each number chained.
-pub fn sort_targets(
-    tree: &[u8],
-    classes: &[u8; 256],
-    rows: &[u16; ROWS],
-    body: &[u8],
-    hung: &[u16; HUNG],
-    sorted: &mut [u16; SORTED],
-) -> usize
-    requires prepared { Prepared classes.now tree.now rows.now × GoodKey body.now × HungAll (file_table tree.now) (key_in body.now).paths hung.now }
-    requires sorted_len { (length sorted.old ≡ 24576) × Grouped (class_by classes.now) (file_table tree.now) (key_in body.now) (row 4096 sorted.old) }
-    ensures { SortedBy (class_by classes.now) (file_table tree.now) (key_in body.now) (row 16384 rows.now) sorted.new result × TopsStay sorted.old sorted.new }
+pub fn sort_targets(indexed: &Indexed, body: &[u8], hung: &[Hung; 4], sorted: &mut Sorted) -> usize
+    requires prepared { Ready indexed.now × GoodKey body.now × HungAll (table_in indexed.now) (key_in body.now).paths hung.now }
+    requires grouped { Grouped (classes_in indexed.now) (table_in indexed.now) (key_in body.now) sorted.old.group }
+    ensures { SortedBy (classes_in indexed.now) (table_in indexed.now) (key_in body.now) indexed.now.rows.now.family sorted.new result × TopsStay sorted.old sorted.new }
 {
-    let pivot = choose_pivot(tree, classes, rows, body, hung, sorted);
-    let shared = number_nodes(tree, classes, rows, hung, pivot, sorted);
-    chain_numbers(size(tree), sorted);
+    let pivot = choose_pivot(indexed, body, hung, sorted);
+    number_nodes(indexed, &hung[pivot], sorted);
+    chain_numbers(size(indexed.tree), sorted);
     pivot
 }

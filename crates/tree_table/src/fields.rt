@@ -5,30 +5,28 @@ ghost use Rattle.meaning.specs.Refusals.{node_kind_in};
 ghost use Rattle.tree_table.specs.FileTable.{file_stride, file_table};
 
 use read_record::bodies::{NODE_KIND, WIDE_KIND};
-use read_record::fields::{HEAD_BYTES, KIND_AT, number, wide, word};
+use read_record::fields::{HEAD_BYTES, KIND_AT, number, word};
 use read_record::limits::{LABEL_AT, NODE_BYTES, PARENT_AT, VALUE_AT, WIDE_BYTES};
 
 // The kind of the file's nodes: that of its record 0, whose 4 head bytes decide.
 pub fn node_kind(tree: &[u8]) -> usize
     ensures { result ≡ node_kind_in tree.now }
 {
-    if tree.len() < HEAD_BYTES {
-        return NODE_KIND;
+    if HEAD_BYTES <= tree.len() && word(tree, KIND_AT) == WIDE_KIND {
+        WIDE_KIND
+    } else {
+        NODE_KIND
     }
-    if word(tree, KIND_AT) == WIDE_KIND {
-        return WIDE_KIND;
-    }
-    NODE_KIND
 }
 
 // How many bytes a node record of the kind has.
 pub fn bytes_of(kind: usize) -> usize
     ensures { (result ≡ 7 + value_bytes kind) × (9 ≤ result) × (result ≤ 11) }
 {
-    if kind == WIDE_KIND {
-        return WIDE_BYTES;
+    match kind {
+        WIDE_KIND => WIDE_BYTES,
+        _ => NODE_BYTES,
     }
-    NODE_BYTES
 }
 
 fn node_bytes(tree: &[u8]) -> usize
@@ -55,7 +53,7 @@ pub fn label(tree: &[u8], i: usize) -> usize
     requires { i < (file_table tree.now).size }
     ensures { (result ≡ (file_table tree.now).label i) × (result < 256) }
 {
-    wide(tree[node_bytes(tree) * i + LABEL_AT])
+    usize::from(tree[node_bytes(tree) * i + LABEL_AT])
 }
 
 pub fn value(tree: &[u8], i: usize) -> usize

@@ -1,5 +1,4 @@
-// Nodes off the bytes of an accepted tree: fields, and tables of a number for each node (document 01, "Records", and "Trees, paths and keys").
+// Nodes off the bytes of an accepted tree.
 #![tactic(auto)]
 
 pub mod fields;
-pub mod tables;

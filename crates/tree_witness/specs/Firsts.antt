@@ -169,9 +169,9 @@ module _ (t : Table) (family path : List ℕ) (b : ℕ) (some : 0 < t.size) (fro
               inr (z, own.least v m.other.0 m.other.1 m.down (m.same ∙ ap (λ (j : ℕ). get_or family j 0) (sym z)))
           go u v m (no n) = inl (let l = (w.later u m.not_root m.inside m.hangs m.holds).1 in omega arith)
 
-      pub look_none : (x y z : ℕ) → x ≡ 0 → EqualPair κ t a b path → Along t.size from (Holds family table) a x → FirstPair κ t a b path y z
-      look_none x y z e p w =
+      pub look_none : (x : ℕ) → x ≡ 0 → EqualPair κ t a b path → Along t.size from (Holds family table) a x → ⊥
+      look_none x e p w =
           let m = mated p.x p.y p.from_first p.from_second p.equal in
           let l = w.later p.x m.not_root m.inside m.hangs m.holds in
           let l0 = l.0 in
-          absurd (omega arith)
+          omega arith

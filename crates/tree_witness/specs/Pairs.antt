@@ -1,10 +1,11 @@
 -- The first pairs of one to four key paths, one behind the other, are those of the key.
-use Rattle.std.specs.Prelude.{ℕ, ◌*◌, ◌<◌, ◌≤◌, ◌-◌, ◌≡◌, refl, List, [], ◌∷◌, length, get_or, take, drop, replicate}
+use Rattle.std.specs.Prelude.{ℕ, ◌*◌, ◌<◌, ◌≤◌, ◌-◌, ◌≡◌, refl, List, [], ◌∷◌, length, get_or, take, drop, replicate, Option, None, Some, unwrap_or, MatchOption}
 use Rattle.std.proofs.Common.{subst, sym, ap₂, arith}
 use Rattle.meaning.specs.Paths.{Class}
 use Rattle.meaning.specs.Trees.{Table, IsTree}
 use Rattle.meaning.specs.Keys.{Key, FirstWitness}
 use Rattle.op_answers.specs.declared.Witness.{Witness}
+use Rattle.tree_witness.specs.declared.Pair.{Pair}
 use Rattle.op_answers.specs.Cases.{numbers_of, Padded}
 use Rattle.theory_trees.specs.Reach.{reached_inside}
 use Rattle.theory_trees.specs.Witness.{FirstPair, FirstPairs, no_path, one_path, FirstTargets}
@@ -23,6 +24,14 @@ pair_none h = record { is = λ l. absurd (omega arith); none = λ l. (refl, refl
 pub pair_some : {κ : ℕ → Class} {t : Table} {a b : ℕ} {paths : List (List ℕ)} {i x y : ℕ} → i < length paths → FirstPair κ t a b (get_or paths i []) x y
     → PairAt κ t a b paths i x y
 pair_some h f = record { is = λ l. f; none = λ l. absurd (omega arith) }
+
+-- what stands in the witness for it
+pub pair_shown : {κ : ℕ → Class} {t : Table} {a b : ℕ} {paths : List (List ℕ)} {i : ℕ} (found : Option Pair) (p : Pair)
+    → p ≡ unwrap_or found (record { x = 0; y = 0 })
+    → MatchOption found (length paths ≤ i) (λ q. (i < length paths) × FirstPair κ t a b (get_or paths i []) q.x q.y)
+    → PairAt κ t a b paths i p.x p.y
+pair_shown {κ} {t} {a} {b} {paths} {i} None p e h = subst (λ (q : Pair). PairAt κ t a b paths i q.x q.y) (sym e) (pair_none h)
+pair_shown {κ} {t} {a} {b} {paths} {i} (Some q) p e h = subst (λ (r : Pair). PairAt κ t a b paths i r.x r.y) (sym e) (pair_some h.0 h.1)
 
 -- a witness with nothing behind its numbers, the first against the key
 pub record FirstShown (κ : ℕ → Class) (t : Table) (key : Key) (w : Witness) : Type 0 where

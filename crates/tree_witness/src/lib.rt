@@ -1,131 +1,103 @@
-// The first witness against a key (02, request 9): the first context and targets are known, and each key path has its first value-equal pair below
-// them. The nodes that a key path reaches from a node stand in a list that ascends, so the first of a family is the least.
+// The first witness against a key: the first context and targets are known, and each key path has its first value-equal pair below them. The nodes
+// that a key path reaches from a node stand in a list that ascends, so the first of a family is the least.
 #![tactic(auto)]
 
-ghost use Rattle.std.specs.Prelude.{◌≡◌, [], ℕ, ◌<◌, length, get_or};
+ghost use Rattle.std.specs.Prelude.{◌≡◌, [], ℕ, ◌<◌, ◌≤◌, length, get_or, MatchOption};
 ghost use Rattle.meaning.specs.Lists.{Each};
 ghost use Rattle.meaning.specs.Keys.{EqualPair};
-ghost use Rattle.meaning.specs.Records.{key_in};
 ghost use Rattle.theory_trees.specs.Witness.{FirstPair, FirstTargets};
-ghost use Rattle.tree_table.specs.FileTable.{file_table, class_by};
-ghost use Rattle.tree_rows.specs.Rows.{row};
-ghost use Rattle.tree_pairs.specs.Marks.{Hanging};
+ghost use Rattle.tree_pairs.specs.Reach.{Hangs, tree_of, classes_of, key_of};
 ghost use Rattle.tree_witness.specs.Firsts.{Firsts};
-ghost use Rattle.tree_witness.specs.Pairs.{PairAt, FirstShown};
+ghost use Rattle.tree_witness.specs.Pairs.{FirstShown};
 
 use op_answers::Witness;
 use read_record::keys::count;
-use tree_rows::hung::{HUNG, first_hung, next_hung};
-use tree_rows::rows::{ROWS, family_of};
-use tree_table::tables::{at, blank};
+use read_record::limits::TREE_NODES;
+use tree_pairs::reach::Reach;
 
 // "one value-equal pair": x lies below the smaller target, y below the larger.
-#[derive(Drop)]
+#[derive(Clone, Copy, Debug, PartialEq, Eq)]
 struct Pair {
     x: usize,
     y: usize,
 }
 
+// What stands in a witness for a key path that the key does not have.
+const NO_PAIR: Pair = Pair { x: 0, y: 0 };
+
 // At each family the first node of it that key path i reaches from b; 0 where there is none.
-fn put_firsts(
-    tree: &[u8],
-    classes: &[u8; 256],
-    rows: &[u16; ROWS],
-    hung: &[u16; HUNG],
-    body: &[u8],
-    firsts: &mut [u16; 4096],
-    i: usize,
-    b: usize,
-)
-    requires hanging { Hanging classes.now tree.now rows.now hung.now body.now × (i < length (key_in body.now).paths) × (b < (file_table tree.now).size) }
-    requires firsts_len { (length firsts.old ≡ 4096) × ((k : ℕ) → get_or firsts.old k 0 ≡ 0) }
-    ensures { Firsts (file_table tree.now) (row 16384 rows.now) (get_or (key_in body.now).paths i []) b firsts.new }
+fn put_firsts(reach: &Reach, firsts: &mut [u16; TREE_NODES], i: usize, b: usize)
+    requires hanging { Hangs reach.now × (i < length (key_of reach.now).paths) × (b < (tree_of reach.now).size) }
+    requires bare { (k : ℕ) → get_or firsts.old k 0 ≡ 0 }
+    ensures { Firsts (tree_of reach.now) reach.now.rows.now.family (get_or (key_of reach.now).paths i []) b firsts.new }
 {
-    let mut y = first_hung(hung, i, b);
+    let list = &reach.hung[i];
+    let mut y = usize::from(list.first[b]);
+    // Stays a `while`: because a list by links counts nothing.
     while y != 0 {
-        let family = family_of(rows, y);
-        if at(&*firsts, family) == 0 {
+        let family = reach.rows.family_of(y);
+        let first = firsts[family];
+        if first == 0 {
             firsts[family] = y as u16;
-            y = next_hung(hung, i, y);
-        } else {
-            y = next_hung(hung, i, y);
         }
+        y = usize::from(list.next[y]);
     }
 }
 
 // The first node that key path i reaches from a, of a family that it reaches from b too, with the first node of that family below b.
 fn first_pair(
-    tree: &[u8],
-    classes: &[u8; 256],
-    rows: &[u16; ROWS],
-    hung: &[u16; HUNG],
-    body: &[u8],
-    firsts: &[u16; 4096],
+    reach: &Reach,
+    firsts: &[u16; TREE_NODES],
     i: usize,
     a: usize,
     b: usize,
-) -> Pair
-    requires hanging { Hanging classes.now tree.now rows.now hung.now body.now × (i < length (key_in body.now).paths) × (a < b) × (b < (file_table tree.now).size) }
-    requires firsts { Firsts (file_table tree.now) (row 16384 rows.now) (get_or (key_in body.now).paths i []) b firsts.now × EqualPair (class_by classes.now) (file_table tree.now) a b (get_or (key_in body.now).paths i []) }
-    ensures { FirstPair (class_by classes.now) (file_table tree.now) a b (get_or (key_in body.now).paths i []) result.x result.y }
+) -> Option<Pair>
+    requires hanging { Hangs reach.now × (i < length (key_of reach.now).paths) × (a < b) × (b < (tree_of reach.now).size) }
+    requires firsts { Firsts (tree_of reach.now) reach.now.rows.now.family (get_or (key_of reach.now).paths i []) b firsts.now × EqualPair (classes_of reach.now) (tree_of reach.now) a b (get_or (key_of reach.now).paths i []) }
+    ensures { MatchOption result ⊥ (λ p. FirstPair (classes_of reach.now) (tree_of reach.now) a b (get_or (key_of reach.now).paths i []) p.x p.y) }
 {
-    let mut x = first_hung(hung, i, a);
+    let list = &reach.hung[i];
+    let mut x = usize::from(list.first[a]);
+    // Stays a `while`: because a list by links counts nothing.
     while x != 0 {
-        let y = at(firsts, family_of(rows, x));
+        let y = usize::from(firsts[reach.rows.family_of(x)]);
         if y != 0 {
-            return Pair { x: x, y: y };
+            return Some(Pair { x, y });
         }
-        x = next_hung(hung, i, x);
+        x = usize::from(list.next[x]);
     }
-    Pair { x: 0, y: 0 }
+    None
 }
 
-// The first pair of key path i; 0 and 0 where the key has fewer key paths.
-fn pair_at(
-    tree: &[u8],
-    classes: &[u8; 256],
-    rows: &[u16; ROWS],
-    hung: &[u16; HUNG],
-    body: &[u8],
-    i: usize,
-    a: usize,
-    b: usize,
-) -> Pair
-    requires hanging { Hanging classes.now tree.now rows.now hung.now body.now × (a < b) × (b < (file_table tree.now).size) }
-    requires each { Each (EqualPair (class_by classes.now) (file_table tree.now) a b) (key_in body.now).paths }
-    ensures { PairAt (class_by classes.now) (file_table tree.now) a b (key_in body.now).paths i result.x result.y }
+// The first pair of key path i, where the key has so many.
+fn pair_at(reach: &Reach, i: usize, a: usize, b: usize) -> Option<Pair>
+    requires hanging { Hangs reach.now × (a < b) × (b < (tree_of reach.now).size) }
+    requires each { Each (EqualPair (classes_of reach.now) (tree_of reach.now) a b) (key_of reach.now).paths }
+    ensures { MatchOption result (length (key_of reach.now).paths ≤ i)
+        (λ p. (i < length (key_of reach.now).paths) × FirstPair (classes_of reach.now) (tree_of reach.now) a b (get_or (key_of reach.now).paths i []) p.x p.y) }
 {
-    if count(body) <= i {
-        return Pair { x: 0, y: 0 };
+    if count(reach.body) <= i {
+        return None;
     }
-    let mut firsts = blank();
-    put_firsts(tree, classes, rows, hung, body, &mut firsts, i, b);
-    first_pair(tree, classes, rows, hung, body, &firsts, i, a, b)
+    let mut firsts = [0u16; TREE_NODES];
+    put_firsts(reach, &mut firsts, i, b);
+    first_pair(reach, &firsts, i, a, b)
 }
 
 // The first witness, from the first context and targets.
-pub fn witness(
-    tree: &[u8],
-    classes: &[u8; 256],
-    rows: &[u16; ROWS],
-    hung: &[u16; HUNG],
-    body: &[u8],
-    context: usize,
-    first: usize,
-    second: usize,
-) -> Witness
-    requires { Hanging classes.now tree.now rows.now hung.now body.now × FirstTargets (class_by classes.now) (file_table tree.now) (key_in body.now) context first second }
-    ensures { FirstShown (class_by classes.now) (file_table tree.now) (key_in body.now) result }
+pub fn witness(reach: &Reach, context: usize, first: usize, second: usize) -> Witness
+    requires { Hangs reach.now × FirstTargets (classes_of reach.now) (tree_of reach.now) (key_of reach.now) context first second }
+    ensures { FirstShown (classes_of reach.now) (tree_of reach.now) (key_of reach.now) result }
 {
-    let one = pair_at(tree, classes, rows, hung, body, 0, first, second);
-    let two = pair_at(tree, classes, rows, hung, body, 1, first, second);
-    let three = pair_at(tree, classes, rows, hung, body, 2, first, second);
-    let four = pair_at(tree, classes, rows, hung, body, 3, first, second);
+    let one = pair_at(reach, 0, first, second).unwrap_or(NO_PAIR);
+    let two = pair_at(reach, 1, first, second).unwrap_or(NO_PAIR);
+    let three = pair_at(reach, 2, first, second).unwrap_or(NO_PAIR);
+    let four = pair_at(reach, 3, first, second).unwrap_or(NO_PAIR);
     Witness {
-        context: context,
-        first: first,
-        second: second,
-        paths: count(body),
+        context,
+        first,
+        second,
+        paths: count(reach.body),
         x0: one.x,
         y0: one.y,
         x1: two.x,

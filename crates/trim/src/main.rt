@@ -2,11 +2,9 @@
 // record, or `unreadable` with the name. Thin over `op_trim::trim`.
 #![tactic(auto)]
 
-use op_answers::Filling;
 use op_trim::trim;
 use program_files::{
-    ANSWER_ROOM, PROFILE_READ, PROOF_READ, QUESTION_READ, part_read, print, print_refusal,
-    read_argument, unread, word_count, write_used,
+    ANSWER_ROOM, PROFILE_READ, PROOF_READ, QUESTION_READ, read_argument, word_count, write_used,
 };
 use std::io;
 use std::rt::{Env, Files};
@@ -22,33 +20,29 @@ fn trim_files(rt: &(impl Env + Files + Print)) -> io::Result<()> {
     let mut question = [0u8; QUESTION_READ];
     let mut proof = [0u8; PROOF_READ];
     let mut answer = [0u8; ANSWER_ROOM];
-    let first = read_argument(rt, 1, &mut profile)?;
-    if unread(first) {
+    let Some(first) = read_argument(rt, 1, &mut profile)? else {
         return Ok(());
-    }
-    let second = read_argument(rt, 2, &mut question)?;
-    if unread(second) {
+    };
+    let Some(second) = read_argument(rt, 2, &mut question)? else {
         return Ok(());
-    }
-    let third = read_argument(rt, 3, &mut proof)?;
-    if unread(third) {
+    };
+    let Some(third) = read_argument(rt, 3, &mut proof)? else {
         return Ok(());
-    }
-    let trimmed = trim(
-        part_read(first, &profile),
-        part_read(second, &question),
-        part_read(third, &proof),
+    };
+    match trim(
+        &profile[..first],
+        &question[..second],
+        &proof[..third],
         &mut answer,
-    );
-    match trimmed {
-        Filling::Filled(used) => write_used(rt, OUT, b"trimmed", &answer, used),
-        Filling::Refused(r) => print_refusal(rt, r.number, r.input, r.place),
+    ) {
+        Ok(used) => write_used(rt, OUT, "trimmed", &answer, used),
+        Err(refusal) => println!(rt; "{refusal}"),
     }
 }
 
 fn main(rt: HostRuntime) -> io::Result<()> {
     if word_count(&rt) != WORDS {
-        return print(&rt, b"usage: trim PROFILE QUESTION PROOF OUT\n");
+        return println!(rt; "usage: trim PROFILE QUESTION PROOF OUT");
     }
     trim_files(&rt)
 }

@@ -1,6 +1,6 @@
 -- Bytes written into a lent buffer from a place on; what stands before and behind them stays.
-use Rattle.std.specs.Prelude.{ℕ, ◌+◌, ◌<◌, ◌≤◌, ◌≡◌, refl, List, [], ◌∷◌, ◌++◌, length, get_or, take, drop, set}
-use Rattle.std.proofs.Common.{sym, ◌∙◌, ap, ap₂, subst, append_assoc, arith, zero-add, add-one, length-append, length-drop, take-append-drop, take_at, length-take-le, drop-drop, take-suc, take_all}
+use Rattle.std.specs.Prelude.{ℕ, ◌+◌, ◌≤◌, ◌≡◌, refl, List, [], ◌∷◌, ◌++◌, length, take, drop, set}
+use Rattle.std.proofs.Common.{sym, ◌∙◌, ap, ap₂, subst, append_assoc, arith, zero-add, add-one, length-append, length-drop, take-append-drop, take_at, length-take-le, drop-drop}
 use Rattle.std.proofs.lemmas.List.{set_split}
 use Rattle.std.proofs.Math.Seq.{drop-append-add}
 
@@ -72,22 +72,6 @@ wrote_two out at a b h =
     let two : at + 1 + 1 ≡ at + 2 = omega arith in
     subst (Wrote out (set (set out at a) (at + 1) b) at (a ∷ b ∷ [])) two
     (wrote_then_byte b (wrote_byte out at a (omega arith)) (let z : at + 1 + 1 ≤ length out = omega arith in z))
-
--- bytes one after another
-pub bytes_none : (out : List ℕ) (at : ℕ) → at ≤ length out → Wrote out out at [] (at + 0)
-bytes_none out at h = let e : at ≡ at + 0 = omega arith in subst (Wrote out out at []) e (wrote_none out at h)
-
-pub bytes_more : (out mid : List ℕ) (at i : ℕ) (bytes : List ℕ) → i < length bytes → at + length bytes ≤ length out
-    → Wrote out mid at (take i bytes) (at + i)
-    → Wrote out (set mid (at + i) (get_or bytes i 0)) at (take (i + 1) bytes) (at + (i + 1))
-bytes_more out mid at i bytes h room w =
-    let e : at + i + 1 ≡ at + (i + 1) = omega arith in
-    let l = length-take-le i bytes (omega arith) in
-    subst (Wrote out (set mid (at + i) (get_or bytes i 0)) at (take (i + 1) bytes)) e
-    (wrote_is (sym (ap (λ (n : ℕ). take n bytes) (add-one i) ∙ take-suc bytes i 0 h)) (wrote_then_byte (get_or bytes i 0) w (omega arith)))
-
-pub bytes_all : (out mid : List ℕ) (at i : ℕ) (bytes : List ℕ) → length bytes ≤ i → Wrote out mid at (take i bytes) (at + i) → Wrote out mid at bytes (at + i)
-bytes_all out mid at i bytes h w = wrote_is (take_all i bytes h) w
 
 -- From the front of a buffer: what was written is the part up to the next place
 pub wrote_part : {out end v : List ℕ} {next : ℕ} → Wrote out end 0 v next → take next end ≡ v

@@ -72,6 +72,9 @@ pub gone_beyond : (keys : ℕ) (stays : List Bool) (n : ℕ) → keys ≤ n → 
 unfolding is_gone
 gone_beyond keys stays n h = rw (le-ltb n keys h) refl
 
+pub gone_not_there : (keys : ℕ) (stays : List Bool) (n : ℕ) → keys ≤ n → ltb n keys ≡ is_gone keys stays n
+gone_not_there keys stays n h = le-ltb n keys h ∙ gone_beyond keys stays n h
+
 pub gone_told : (keys : ℕ) (stays : List Bool) (n : ℕ) → n < keys → not (get_or stays n false) ≡ is_gone keys stays n
 unfolding is_gone
 gone_told keys stays n h = rw (lt-ltb n keys h) refl

@@ -1,4 +1,6 @@
-// Of each key of a profile whether it stays (document 02, request 3): the records of those that stay, and the numbers of those that do not.
+// Of each key of a profile whether it stays: the records of those that stay, and the numbers of those that do not.
+// Stays: buffer and place go in and the next place comes out, because a struct that holds the `&mut` owes in each function that it holds it still, and is
+// no plainer.
 #![tactic(auto)]
 
 pub mod numbers;

@@ -7,7 +7,8 @@ ghost use Rattle.write_chosen.specs.Dropping.{NumberIf, is_gone};
 use crate::records::PROFILE_KEYS;
 
 // The first `count` numbers; behind them all are 0.
-#[derive(Clone, Copy)]
+// Stays: so many numbers with their count beside them, because nothing here stands on the heap.
+#[derive(Clone, Copy, Debug, PartialEq, Eq)]
 pub struct Dropped {
     pub numbers: [usize; PROFILE_KEYS],
     pub count: usize,
@@ -21,13 +22,10 @@ fn number_if(dropped: Dropped, n: usize, stays: bool) -> Dropped
     if stays {
         return dropped;
     }
-    let mut numbers = dropped.numbers;
-    let count = dropped.count;
-    numbers[count] = n;
-    Dropped {
-        numbers,
-        count: count + 1,
-    }
+    let mut more = dropped;
+    more.numbers[dropped.count] = n;
+    more.count += 1;
+    more
 }
 
 pub fn dropped_numbers(keys: usize, stays: [bool; PROFILE_KEYS]) -> Dropped
@@ -38,21 +36,17 @@ pub fn dropped_numbers(keys: usize, stays: [bool; PROFILE_KEYS]) -> Dropped
         numbers: [0usize; PROFILE_KEYS],
         count: 0,
     };
-    let mut n = 0;
-    while n < keys {
+    for n in 0..keys {
         dropped = number_if(dropped, n, stays[n]);
-        n += 1;
     }
     dropped
 }
 
 // Key n is there and does not stay.
+#[tactic(auto, using(crate::specs::Dropping::gone_told, crate::specs::Dropping::gone_not_there))]
 pub fn is_dropped(keys: usize, stays: [bool; PROFILE_KEYS], n: usize) -> bool
     requires { keys ≤ 64 }
     ensures { result ≡ is_gone keys stays n }
 {
-    if keys <= n {
-        return false;
-    }
-    !stays[n]
+    n < keys && !stays[n]
 }

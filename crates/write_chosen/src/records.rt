@@ -11,7 +11,7 @@ use write_bytes::put;
 pub const PROFILE_KEYS: usize = 64;
 
 // Where the records end, and how many there are.
-#[derive(Clone, Copy)]
+#[derive(Clone, Copy, Debug, PartialEq, Eq)]
 pub struct Chosen {
     pub end: usize,
     pub count: usize,
@@ -45,12 +45,10 @@ pub fn put_chosen(
 {
     let mut rest = part;
     let mut chosen = Chosen { end: at, count: 0 };
-    let mut n = 0;
-    while n < keys {
+    for n in 0..keys {
         let end = front_length(rest);
         chosen = put_if(out, chosen, &rest[..end], stays[n]);
         rest = &rest[end..];
-        n += 1;
     }
     chosen
 }

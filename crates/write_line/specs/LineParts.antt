@@ -1,5 +1,6 @@
 -- The bytes of a proof line as they are written: its head and fields, then the key body.
-use Rattle.std.specs.Prelude.{ℕ, ◌+◌, ◌/◌, ◌%◌, ◌<◌, ◌≤◌, ◌≡◌, refl, true, take, set}
+use Rattle.std.specs.Prelude.{ℕ, ◌+◌, ◌%◌, ◌<◌, ◌≤◌, ◌≡◌, true, take}
+use Rattle.std.specs.Int.{w16, to_le_bytes}
 use Rattle.std.proofs.Common.{sym, ◌∙◌}
 use Rattle.std.proofs.Math.Path.{ap, ap₂}
 use mathlib.Core.List.{List, [], ◌∷◌, ◌++◌}
@@ -13,7 +14,7 @@ use Rattle.read_record.specs.KeyPaths.{paths_count}
 use Rattle.read_record.specs.PathBytes.{paths_bytes}
 use Rattle.theory_derive.specs.Written.{key_of, two_line}
 use Rattle.theory_pattern.specs.RowParts.{norm_length}
-use Rattle.write_bytes.specs.Wrote.{Wrote, wrote_more, wrote_is, wrote_part, wrote_two}
+use Rattle.write_bytes.specs.Wrote.{Wrote, wrote_more, wrote_is, wrote_part}
 
 unfoldable pub line_head : (size rule first second : ℕ) → List ℕ
 line_head size rule first second = word_bytes size ++ (word_bytes line_kind ++ ((rule ∷ []) ++ (word_bytes first ++ word_bytes second)))
@@ -91,9 +92,14 @@ module _ {o a b : List ℕ} {at p q : ℕ} (rule first second : ℕ) (context ta
 
 -- ---- one law for each return; what was written last stands first
 
-pub word_wrote : (o : List ℕ) (at n : ℕ) → at + 2 ≤ length o → Sized o (set (set o at (n % 256)) (at + 1) (n / 256 % 256)) at (word_bytes n) 2 (at + 2)
+-- as the library writes the two bytes
+word_le : (n : ℕ) → to_le_bytes w16 (n % 65536) ≡ word_bytes n
 unfolding word_bytes
-word_wrote o at n h = record { wrote = wrote_two o at (n % 256) (n / 256 % 256) h; size = refl }
+word_le n = ap₂ (λ (a b : ℕ). a ∷ b ∷ []) (omega arith) (omega arith)
+
+pub word_wrote : {o e : List ℕ} {at next : ℕ} (n : ℕ) → Wrote o e at (to_le_bytes w16 (n % 65536)) next → Sized o e at (word_bytes n) 2 next
+unfolding word_bytes
+word_wrote n w = let v = wrote_is (word_le n) w in record { wrote = v; size = v.after }
 
 pub path_wrote : {o a b path : List ℕ} {at p q : ℕ} → Wrote a b p path q → Wrote o a at (length path ∷ []) p
     → Sized o b at (path_bytes path) (length path + 1) q

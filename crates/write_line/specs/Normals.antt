@@ -1,7 +1,11 @@
 -- The normal form, symbol by symbol: an any-path with another behind it is left out.
-use Prim.Native.Nat.{ℕ, zero, suc, ◌+◌, ◌-◌, ◌<◌, ◌≤◌}
-use Rattle.std.specs.Prelude.{◌≡◌, refl, Bool, true, false, not, length, drop, set}
-use Rattle.std.proofs.Math.Path.{sym, ap, ap₂}
+use Prim.Native.Nat.{ℕ, zero, suc, ◌+◌, ◌<◌, ◌≤◌}
+use Rattle.std.specs.Prelude.{◌≡◌, refl, Bool, true, false, not, ◌&&◌, length, take, drop, set}
+use Rattle.std.specs.Cmp.Lexicographic.{pointwise}
+use Rattle.std.specs.List.{between, starts_with}
+use Rattle.std.proofs.lemmas.Slice.{between_to_end}
+use Rattle.std.proofs.Common.{nat_eq}
+use Rattle.std.proofs.Math.Path.{sym, ap}
 use Rattle.std.proofs.Common.{◌∙◌, subst, arith, add-one, drop_of_length-le, drop-cons}
 use mathlib.Core.List.{List, [], ◌∷◌, ◌++◌, append_assoc, append-nil}
 use Rattle.std.proofs.Math.Dec.{eqb}
@@ -21,35 +25,18 @@ leads_doubled (zero ∷ suc a ∷ p) = false
 unfoldable pub doubled_any : List ℕ → ℕ → Bool
 doubled_any path i = leads_doubled (drop i path)
 
-leads_label : (s : ℕ) (p : List ℕ) → (s ≡ 0 → ⊥) → false ≡ leads_doubled (s ∷ p)
+leads_is : (p : List ℕ) → pointwise nat_eq (0 ∷ 0 ∷ []) (take 2 p) ≡ leads_doubled p
 unfolding leads_doubled
-leads_label zero p n = absurd (n refl)
-leads_label (suc a) p n = refl
+leads_is [] = refl
+leads_is (suc a ∷ p) = ap (λ (b : Bool). b && pointwise nat_eq (0 ∷ []) (take 1 p)) (ne_eqb 0 (suc a) (λ h. let z : 0 ≡ suc a = h in omega arith))
+leads_is (zero ∷ []) = refl
+leads_is (zero ∷ zero ∷ p) = refl
+leads_is (zero ∷ suc a ∷ p) = ap (λ (b : Bool). b && true) (ne_eqb 0 (suc a) (λ h. let z : 0 ≡ suc a = h in omega arith))
 
-leads_two : (s t : ℕ) (p : List ℕ) → s ≡ 0 → eqb t 0 ≡ leads_doubled (s ∷ t ∷ p)
-unfolding leads_doubled
-leads_two zero zero p e = refl
-leads_two zero (suc b) p e = ne_eqb (suc b) 0 (λ h. let z : suc b ≡ 0 = h in omega arith)
-leads_two (suc a) t p e = absurd (omega arith)
-
-module _ (path : List ℕ) (i : ℕ) (h : i < length path) where
-  pub doubled_label : (get_or path i 0 ≡ 0 → ⊥) → false ≡ doubled_any path i
-  unfolding doubled_any
-  doubled_label n = leads_label (get_or path i 0) (drop (suc i) path) n ∙ ap leads_doubled (sym (drop-cons path i 0 h))
-
-  pub doubled_last : get_or path i 0 ≡ 0 → length path - i ≡ 1 → false ≡ doubled_any path i
-  unfolding doubled_any leads_doubled
-  doubled_last z l =
-      ap₂ (λ (s : ℕ) (p : List ℕ). leads_doubled (s ∷ p)) (sym z) (sym (drop_of_length-le path {i = suc i} (omega arith)))
-      ∙ ap leads_doubled (sym (drop-cons path i 0 h))
-
-  pub doubled_next : get_or path i 0 ≡ 0 → (length path - i ≡ 1 → ⊥) → eqb (get_or path (i + 1) 0) 0 ≡ doubled_any path i
-  unfolding doubled_any
-  doubled_next z l =
-      ap (λ (n : ℕ). eqb (get_or path n 0) 0) (add-one i)
-      ∙ leads_two (get_or path i 0) (get_or path (suc i) 0) (drop (suc (suc i)) path) z
-      ∙ ap (λ (p : List ℕ). leads_doubled (get_or path i 0 ∷ p)) (sym (drop-cons path (suc i) 0 (omega arith)))
-      ∙ ap leads_doubled (sym (drop-cons path i 0 h))
+-- as the library says what a part of a slice starts with
+pub doubled_is : (path : List ℕ) (i : ℕ) → starts_with nat_eq (between i (length path) path) (0 ∷ 0 ∷ []) ≡ doubled_any path i
+unfolding doubled_any
+doubled_is path i = ap (λ (p : List ℕ). starts_with nat_eq p (0 ∷ 0 ∷ [])) (between_to_end path i (length path) (omega arith)) ∙ leads_is (drop i path)
 
 norm_skip : (s : ℕ) (p : List ℕ) → leads_doubled (s ∷ p) ≡ true → norm (s ∷ p) ≡ norm p
 unfolding norm leads_doubled

@@ -1,4 +1,6 @@
-// The bytes of one proof line, written into a lent buffer from a place on: document 01, "Records", kind 4. What stands before and behind stays.
+// The bytes of one proof line, a record of kind 4, written into a lent buffer from a place on. What stands before and behind stays.
+// Stays: buffer and place go in and the next place comes out, because a struct that holds the `&mut` owes in each function that it holds it still, and is
+// no plainer.
 #![tactic(auto)]
 
 ghost use Rattle.std.specs.Prelude.{◌≡◌, [], ◌∷◌, ◌+◌, ◌<◌, ◌≤◌, length};
@@ -11,15 +13,20 @@ ghost use Rattle.write_line.specs.Normals.{doubled_any};
 ghost use Rattle.write_line.specs.LineParts.{Sized, line_head, key_part, LineFits, WroteLine};
 
 use read_record::bodies::LINE_KIND;
-use read_record::fields::BYTE;
 use read_record::limits::{KEY_IN_LINE, LINE_SYMBOLS};
 use write_bytes::put;
 
 // The two lengths and the count inside a key body.
 const KEY_LENGTHS: usize = 3;
 
+// How many values two bytes have.
+const WORDS: usize = 65536;
+
+// Two symbols that are both the any-path.
+const TWO_ANY: [u8; 2] = [0, 0];
+
 // "rule (1), first premise (2), second premise (2)"
-#[derive(Clone, Copy)]
+#[derive(Clone, Copy, Debug, PartialEq, Eq)]
 pub struct Head {
     pub rule: usize,
     pub first: usize,
@@ -40,9 +47,8 @@ pub fn put_word(out: &mut [u8], at: usize, n: usize) -> usize
     requires { at + 2 ≤ length out.old }
     ensures { Sized out.old out.new at (word_bytes n) 2 result }
 {
-    out[at] = (n % BYTE) as u8;
-    out[at + 1] = (n / BYTE % BYTE) as u8;
-    at + 2
+    let word = (n % WORDS) as u16;
+    put(out, at, &word.to_le_bytes())
 }
 
 // "length and symbols"
@@ -59,13 +65,7 @@ fn doubled(path: &[u8], i: usize) -> bool
     requires { i < length path.now }
     ensures { result ≡ doubled_any path.now i }
 {
-    if path[i] != 0 {
-        return false;
-    }
-    if path.len() - i == 1 {
-        return false;
-    }
-    path[i + 1] == 0
+    path[i..].starts_with(&TWO_ANY)
 }
 
 // "Joining two paths removes doubled 0."
@@ -74,13 +74,11 @@ pub fn put_normal(out: &mut [u8], at: usize, path: &[u8]) -> usize
     ensures { Wrote out.old out.new at (norm path.now) result }
 {
     let mut next = at;
-    let mut i = 0;
-    while i < path.len() {
+    for (i, &symbol) in path.iter().enumerate() {
         if !doubled(path, i) {
-            out[next] = path[i];
+            out[next] = symbol;
             next += 1;
         }
-        i += 1;
     }
     next
 }

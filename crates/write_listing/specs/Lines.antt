@@ -1,6 +1,8 @@
 -- The lines of a table: those of `meaning`'s listing, over the table and the class function that the code has.
 use Prim.Native.Nat.{ℕ, zero, suc, ◌+◌, ◌*◌, ◌<◌, ◌≤◌}
-use Rattle.std.specs.Prelude.{◌≡◌, Bool, false, cond, not, eqb, length, get_or, take, drop}
+use Rattle.std.specs.Option.{IfSome}
+use Rattle.std.specs.Bool.{then_some}
+use Rattle.std.specs.Prelude.{◌≡◌, Option, None, Some, Bool, false, cond, not, eqb, length, get_or, take, drop}
 use Rattle.std.proofs.Math.Path.{refl, sym, ap, fun_ext}
 use Rattle.std.proofs.Common.{◌∙◌, arith, add-one}
 use Rattle.std.proofs.Math.Bool.{true}
@@ -18,6 +20,44 @@ use Rattle.theory_lists.specs.Lists.{numbers_length}
 -- a number or `-`, and the byte behind it
 unfoldable pub field : Bool → ℕ → ℕ → List ℕ
 field shown n end = cond shown (decimal n) dash ++ (end ∷ [])
+
+-- None for `-`
+abbrev pub text_of : Option ℕ → List ℕ
+text_of None = dash
+text_of (Some n) = decimal n
+
+unfoldable pub field_of : Option ℕ → ℕ → List ℕ
+field_of None end = field false 0 end
+field_of (Some n) end = field true n end
+
+-- A number that is shown has at most ten digits
+abbrev pub Shows : Option ℕ → Type 0
+Shows shown = IfSome shown (λ n. n < 4294967296)
+
+pub field_parts : (s : Option ℕ) (end : ℕ) → text_of s ++ (end ∷ []) ≡ field_of s end
+unfolding field_of field
+field_parts None end = refl
+field_parts (Some n) end = refl
+
+pub field_some : (n end : ℕ) → field_of (Some n) end ≡ field true n end
+unfolding field_of
+field_some n end = refl
+
+pub field_then : (b : Bool) (n end : ℕ) → field_of (then_some b n) end ≡ field b n end
+unfolding field_of field
+field_then true n end = refl
+field_then false n end = refl
+
+pub shows_then : (b : Bool) (n : ℕ) → n < 4294967296 → Shows (then_some b n)
+shows_then true n h = h
+shows_then false n h = tt
+
+pub text_short : (s : Option ℕ) → Shows s → length (text_of s) ≤ 10
+text_short None h = omega arith
+text_short (Some n) h = ten_digits n h
+
+pub field_short : (s : Option ℕ) (end : ℕ) → Shows s → length (field_of s end) ≤ 11
+field_short s end h = let d = text_short s h in let e = ap length (field_parts s end) in let f = length-append (text_of s) (end ∷ []) in omega arith
 
 unfoldable pub line_of : (ℕ → Class) → Table → ℕ → List ℕ
 line_of κ t x =

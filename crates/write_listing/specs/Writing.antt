@@ -1,6 +1,7 @@
 -- One law for each return of the writers.
 use Prim.Native.Nat.{ℕ, suc, ◌+◌, ◌-◌, ◌*◌, ◌/◌, ◌%◌, ◌<◌, ◌≤◌}
-use Rattle.std.specs.Prelude.{◌≡◌, Bool, false, length, set, eqb}
+use Rattle.std.specs.Prelude.{◌≡◌, Option, Some, Bool, length, set, eqb}
+use Rattle.std.specs.Bool.{then_some}
 use Rattle.std.proofs.Common.{sym, ◌∙◌}
 use Rattle.std.proofs.Math.Path.{ap, ap₂, subst}
 use Rattle.std.proofs.Math.Bool.{true, not}
@@ -10,9 +11,9 @@ use Rattle.meaning.specs.Limits.{block_lines}
 use Rattle.meaning.specs.Paths.{Class, is_element}
 use Rattle.meaning.specs.Trees.{Table}
 use Rattle.meaning.specs.Listing.{decimal}
-use Rattle.write_bytes.specs.Wrote.{Wrote, wrote_more, wrote_none, wrote_byte, wrote_then_byte, wrote_two}
-use Rattle.write_listing.specs.Decimal.{decimal_one, decimal_more, length_one, length_more, ten_digits}
-use Rattle.write_listing.specs.Lines.{field, field_length, line_of, line_at, head_of, line_short, head_short, block_of}
+use Rattle.write_bytes.specs.Wrote.{Wrote, wrote_more, wrote_none, wrote_byte, wrote_then_byte, wrote_is}
+use Rattle.write_listing.specs.Decimal.{decimal_one, decimal_more, length_one, length_more}
+use Rattle.write_listing.specs.Lines.{field, field_of, Shows, field_length, field_short, field_some, field_then, line_of, line_at, head_of, line_short, head_short, block_of}
 use Rattle.write_listing.specs.Blocks.{shown, shown_none, shown_more, shown_all, block_past}
 
 -- as much room as there was, less what was written
@@ -35,40 +36,26 @@ module _ {out mid : List ℕ} {at next : ℕ} (n : ℕ) (more : 10 ≤ n) (room 
       subst (λ (v : List ℕ). Wrote out (set mid next (48 + n % 10)) at v (next + 1)) (sym (decimal_more n more))
       (wrote_then_byte (48 + n % 10) w (omega arith))
 
--- a field
-pub field_shown : {out mid : List ℕ} {at next : ℕ} (b : Bool) (n end : ℕ) → b ≡ true → n < 4294967296 → at + 11 ≤ length out
-    → Wrote out mid at (decimal n) next → Wrote out (set mid next end) at (field b n end) (next + 1)
-unfolding field
-field_shown {out} {mid} {at} {next} b n end e small room w =
-    let d = ten_digits n small in
-    subst (λ (c : Bool). Wrote out (set mid next end) at (field c n end) (next + 1)) (sym e) (wrote_then_byte end w (omega arith))
-
-pub field_room : {out mid : List ℕ} {at next : ℕ} (n : ℕ) → n < 4294967296 → at + 11 ≤ length out → Wrote out mid at (decimal n) next → next < length mid
-field_room n small room w = let d = ten_digits n small in let r = wrote_room 1 w (omega arith) in omega arith
-
-pub field_dash : (out : List ℕ) (at : ℕ) (b : Bool) (n end : ℕ) → b ≡ false → at + 11 ≤ length out
-    → Wrote out (set (set out at 45) (at + 1) end) at (field b n end) (at + 2)
-unfolding field
-field_dash out at b n end e room =
-    subst (λ (c : Bool). Wrote out (set (set out at 45) (at + 1) end) at (field c n end) (at + 2)) (sym e)
-    (wrote_two out at 45 end (omega arith))
-
 -- A line written: it has at most 44 bytes
 pub record WroteLine (out end : List ℕ) (at : ℕ) (v : List ℕ) (next : ℕ) : Type 0 where
   pub wrote : Wrote out end at v next
   pub short : length v ≤ 44
 
 -- the room behind a field
-pub field_after : {out mid : List ℕ} {at next : ℕ} (k : ℕ) (b : Bool) (n end : ℕ) → n < 4294967296 → at + 11 + k ≤ length out
-    → Wrote out mid at (field b n end) next → next + k ≤ length mid
-field_after k b n end small room w = let l = field_length b n end small in wrote_room k w (omega arith)
+pub field_after : {out mid : List ℕ} {at next : ℕ} (k : ℕ) (s : Option ℕ) (end : ℕ) → Shows s → at + 11 + k ≤ length out
+    → Wrote out mid at (field_of s end) next → next + k ≤ length mid
+field_after k s end small room w = let l = field_short s end small in wrote_room k w (omega arith)
 
 module _ {o a b c d : List ℕ} {at p q r s : ℕ} (κ : ℕ → Class) (t : Table) (x above l v : ℕ) (child leaf : Bool) (room : at + 44 ≤ length o)
     (small : x < 4294967296) (above-small : above < 4294967296) (l-small : l < 256) (v-small : v < 4294967296)
-    (w : Wrote o a at (field true x 32) p) (w₂ : Wrote a b p (field child above 32) q) (w₃ : Wrote b c q (field true l 32) r)
-    (w₄ : Wrote c d r (field leaf v 10) s) where
+    {above-shown value-shown : Option ℕ} (above-is : above-shown ≡ then_some child above) (value-is : value-shown ≡ then_some leaf v)
+    (w : Wrote o a at (field_of (Some x) 32) p) (w₂ : Wrote a b p (field_of above-shown 32) q) (w₃ : Wrote b c q (field_of (Some l) 32) r)
+    (w₄ : Wrote c d r (field_of value-shown 10) s) where
   line_joined : Wrote o d at (field true x 32 ++ (field child above 32 ++ (field true l 32 ++ field leaf v 10))) s
-  line_joined = wrote_more w (wrote_more w₂ (wrote_more w₃ w₄))
+  line_joined =
+      wrote_more (wrote_is (field_some x 32) w)
+      (wrote_more (wrote_is (ap (λ (k : Option ℕ). field_of k 32) above-is ∙ field_then child above 32) w₂)
+      (wrote_more (wrote_is (field_some l 32) w₃) (wrote_is (ap (λ (k : Option ℕ). field_of k 10) value-is ∙ field_then leaf v 10) w₄)))
 
   pub line_wrote : above ≡ t.parent x → child ≡ not (eqb x 0) → l ≡ t.label x → leaf ≡ not (is_element (κ l)) → v ≡ t.value x
       → WroteLine o d at (line_of κ t x) s
@@ -84,13 +71,14 @@ module _ {o a b c d : List ℕ} {at p q r s : ℕ} (κ : ℕ → Class) (t : Tab
       }
 
 pub head_wrote : {o a b word : List ℕ} {at p q : ℕ} (κ : ℕ → Class) (t : Table) (n : ℕ) → n ≡ t.size → n < 4294967296 → at + 44 ≤ length o
-    → word ≡ 110 ∷ 111 ∷ 100 ∷ 101 ∷ 115 ∷ 32 ∷ [] → Wrote o a at word p → Wrote a b p (field true n 10) q → WroteLine o b at (head_of t) q
+    → word ≡ 110 ∷ 111 ∷ 100 ∷ 101 ∷ 115 ∷ 32 ∷ [] → Wrote o a at word p → Wrote a b p (field_of (Some n) 10) q → WroteLine o b at (head_of t) q
 unfolding head_of
 head_wrote {o} {b = b} {at = at} {q = q} κ t n e small room f w w₂ =
     let l = field_length true n 10 small in
     let m = ap length f in
     record {
-      wrote = subst (λ (y : List ℕ). Wrote o b at y q) (ap₂ (λ (y : List ℕ) (k : ℕ). y ++ field true k 10) f e) (wrote_more w w₂);
+      wrote = subst (λ (y : List ℕ). Wrote o b at y q) (ap₂ (λ (y : List ℕ) (k : ℕ). y ++ field true k 10) f e)
+          (wrote_more w (wrote_is (field_some n 10) w₂));
       short = let h = head_short κ t (omega arith) in omega arith;
     }
 

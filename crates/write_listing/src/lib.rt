@@ -1,4 +1,6 @@
-// The listing's lines, written into a lent buffer (document 01, "The listing program").
+// The listing's lines, written into a lent buffer: "First line: the word nodes and their number"; "Then number, parent, label, value" of each node.
+// Stays: buffer and place go in and the next place comes out, because a struct that holds the `&mut` owes in each function that it holds it still, and is
+// no plainer.
 #![tactic(auto)]
 
 ghost use Rattle.std.specs.Prelude.{◌+◌, ◌*◌, ◌<◌, ◌≤◌, length};
@@ -6,7 +8,7 @@ ghost use Rattle.meaning.specs.Listing.{decimal};
 ghost use Rattle.tree_table.specs.FileTable.{file_table, class_by, TreeBytes};
 ghost use Rattle.write_bytes.specs.Wrote.{Wrote};
 ghost use Rattle.write_listing.specs.Writing.{WroteLine};
-ghost use Rattle.write_listing.specs.Lines.{field, head_of, line_of, line_at, block_of};
+ghost use Rattle.write_listing.specs.Lines.{Shows, text_of, field_of, head_of, line_of, line_at, block_of};
 
 use read_record::classes::is_element;
 use tree_table::fields::{label, parent, size, value};
@@ -15,8 +17,6 @@ use write_bytes::put;
 const TEN: usize = 10;
 
 const ZERO: usize = 48;
-
-const DASH: u8 = b'-';
 
 const SPACE: u8 = b' ';
 
@@ -40,19 +40,24 @@ pub fn put_decimal(out: &mut [u8], at: usize, n: usize) -> usize
     next + 1
 }
 
-// A number, or `-` "for no parent or no value", and the byte behind it.
-pub fn put_field(out: &mut [u8], at: usize, shown: bool, n: usize, end: u8) -> usize
-    requires { (n < 4294967296) × (at + 11 ≤ length out.old) }
-    ensures { Wrote out.old out.new at (field shown n end) result }
+// A number, or `-` "for no parent or no value".
+fn put_shown(out: &mut [u8], at: usize, shown: Option<usize>) -> usize
+    requires { at + length (text_of shown) ≤ length out.old }
+    ensures { Wrote out.old out.new at (text_of shown) result }
 {
-    if shown {
-        let next = put_decimal(out, at, n);
-        out[next] = end;
-        return next + 1;
+    match shown {
+        Some(n) => put_decimal(out, at, n),
+        None => put(out, at, b"-"),
     }
-    out[at] = DASH;
-    out[at + 1] = end;
-    at + 2
+}
+
+// The same with the byte behind it.
+pub fn put_field(out: &mut [u8], at: usize, shown: Option<usize>, end: u8) -> usize
+    requires { Shows shown × (at + 11 ≤ length out.old) }
+    ensures { Wrote out.old out.new at (field_of shown end) result }
+{
+    let next = put_shown(out, at, shown);
+    put(out, next, &[end])
 }
 
 // "First line: the word nodes and their number."
@@ -61,7 +66,7 @@ fn put_head(out: &mut [u8], at: usize, tree: &[u8], classes: &[u8; 256]) -> usiz
     ensures { WroteLine out.old out.new at (head_of (file_table tree.now)) result }
 {
     let next = put(out, at, b"nodes ");
-    put_field(out, next, true, size(tree), NEWLINE)
+    put_field(out, next, Some(size(tree)), NEWLINE)
 }
 
 // "Then number, parent, label, value; `-` for no parent or no value."
@@ -71,10 +76,11 @@ fn put_node(out: &mut [u8], at: usize, tree: &[u8], classes: &[u8; 256], x: usiz
 {
     let of_node = label(tree, x);
     let leaf = !is_element(classes, of_node);
-    let after_number = put_field(out, at, true, x, SPACE);
-    let after_parent = put_field(out, after_number, x != 0, parent(tree, x), SPACE);
-    let after_label = put_field(out, after_parent, true, of_node, SPACE);
-    put_field(out, after_label, leaf, value(tree, x), NEWLINE)
+    let after_number = put_field(out, at, Some(x), SPACE);
+    let above = (x != 0).then_some(parent(tree, x));
+    let after_parent = put_field(out, after_number, above, SPACE);
+    let after_label = put_field(out, after_parent, Some(of_node), SPACE);
+    put_field(out, after_label, leaf.then_some(value(tree, x)), NEWLINE)
 }
 
 fn put_line(out: &mut [u8], at: usize, tree: &[u8], classes: &[u8; 256], i: usize) -> usize
@@ -95,16 +101,11 @@ pub fn put_block(out: &mut [u8], tree: &[u8], classes: &[u8; 256], k: usize) -> 
     if BLOCKS <= k {
         return 0;
     }
-    let lines = size(tree) + 1;
     let start = BLOCK_LINES * k;
+    let end = (size(tree) + 1).min(start + BLOCK_LINES);
     let mut at = 0;
-    let mut i = start;
-    while i < lines {
-        if i == start + BLOCK_LINES {
-            return at;
-        }
+    for i in start..end {
         at = put_line(out, at, tree, classes, i);
-        i += 1;
     }
     at
 }

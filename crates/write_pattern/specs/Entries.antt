@@ -1,4 +1,4 @@
--- The arrays of a drawing, one number more.
+-- The array of a drawing, one number more.
 use Rattle.std.specs.Prelude.{ℕ, zero, suc, ◌+◌, ◌≤◌, ◌<◌, ◌≡◌, refl, Bool, true, set}
 use Rattle.std.proofs.Common.{sym, ap₂, ◌∙◌, add-one, get_or-set_same, get_or-set_other}
 use Rattle.std.proofs.Math.Path.{ap}
@@ -12,7 +12,8 @@ use Rattle.meaning.specs.Lists.{numbers}
 use Rattle.meaning.specs.Paths.{Class, is_element}
 use Rattle.meaning.specs.Pattern.{Dressed}
 use Rattle.write_pattern.specs.declared.Drawing.{Drawing}
-use Rattle.write_pattern.specs.Sketch.{Sketch, dressed_as, add_to, entry_at, sketch, Sized, Shown, Entered, nothing}
+use Rattle.write_pattern.specs.declared.Entry.{Entry}
+use Rattle.write_pattern.specs.Sketch.{Sketch, dressed, no_entry, dressed_as, add_to, entry_at, sketch, Sized, Shown, Entered, nothing}
 use Rattle.theory_lists.specs.Lists.{map_append, numbers_length}
 
 pub numbers_more : (count start : ℕ) → numbers (suc count) start ≡ numbers count start ++ ((start + count) ∷ [])
@@ -29,10 +30,6 @@ map_agree f g zero start h = refl
 map_agree {A} f g (suc count) start h =
     ap₂ (λ (x : A) (l : List A). x ∷ l) (h start (omega arith) (omega arith)) (map_agree f g count (suc start) (λ x a b. h x (omega arith) (omega arith)))
 
-pub same_dressed : {p q : ℕ} {l m : ℕ} {b c : Bool} → p ≡ q → l ≡ m → b ≡ c
-    → ◌≡◌ {A = Dressed} (record { parent = p; label = l; mark = b }) (record { parent = q; label = m; mark = c })
-same_dressed e f g = λ i. record { parent = e i; label = f i; mark = g i }
-
 pub same_sketch : {s r : List Dressed} {a b : ℕ} → s ≡ r → a ≡ b
     → ◌≡◌ {A = Sketch} (record { entries = s; above = a }) (record { entries = r; above = b })
 same_sketch e f = λ i. record { entries = e i; above = f i }
@@ -42,42 +39,29 @@ unfolding sketch
 sketch_length d = length-map (numbers d.size 0) (entry_at d) ∙ numbers_length d.size 0
 
 -- a blank drawing
-pub blank_drew : (d : Drawing) → length d.parents ≡ 128 → length d.labels ≡ 128 → length d.marks ≡ 128 → d.size ≡ 0 → d.above ≡ 0
+pub blank_drew : (d : Drawing) → length d.entries ≡ 128 → d.size ≡ 0 → d.above ≡ 0
     → Shown d nothing 0
 unfolding sketch numbers
-blank_drew d a b c e f =
+blank_drew d a e f =
     record {
-      sized = record { parents = a; labels = b; marks = c };
+      sized = record { entries = a };
       sketched = same_sketch (ap (λ (k : ℕ). map (entry_at d) (numbers k 0)) e) f;
       short = omega arith;
     }
 
-module _ (d : Drawing) (p l : ℕ) (m : Bool) (a : ℕ) (sized : Sized d) (room : d.size < 128) where
+module _ (d : Drawing) (entry : Entry) (a : ℕ) (sized : Sized d) (room : d.size < 128) where
   after : Drawing
-  after =
-      record {
-        parents = set d.parents d.size p;
-        labels = set d.labels d.size l;
-        marks = set d.marks d.size m;
-        size = d.size + 1;
-        above = a;
-      }
+  after = record { entries = set d.entries d.size entry; size = d.size + 1; above = a }
 
   before_same : (x : ℕ) → x < d.size → entry_at after x ≡ entry_at d x
   unfolding entry_at after
-  before_same x h =
-      let other : x ≡ d.size → ⊥ = λ e. omega arith in
-      same_dressed (get_or-set_other d.parents d.size x p 0 other) (get_or-set_other d.labels d.size x l 0 other)
-      (get_or-set_other d.marks d.size x m false other)
+  before_same x h = ap dressed (get_or-set_other d.entries d.size x entry no_entry (λ e. omega arith))
 
-  here_new : entry_at after d.size ≡ record { parent = p; label = l; mark = m }
+  here_new : entry_at after d.size ≡ dressed entry
   unfolding entry_at after
-  here_new =
-      same_dressed (get_or-set_same d.parents d.size p 0 (let e = sized.parents in omega arith))
-      (get_or-set_same d.labels d.size l 0 (let e = sized.labels in omega arith))
-      (get_or-set_same d.marks d.size m false (let e = sized.marks in omega arith))
+  here_new = ap dressed (get_or-set_same d.entries d.size entry no_entry (let e = sized.entries in omega arith))
 
-  grown : map (entry_at after) (numbers (d.size + 1) 0) ≡ map (entry_at d) (numbers d.size 0) ++ (record { parent = p; label = l; mark = m } ∷ [])
+  grown : map (entry_at after) (numbers (d.size + 1) 0) ≡ map (entry_at d) (numbers d.size 0) ++ (dressed entry ∷ [])
   grown =
       let z : 0 + d.size ≡ d.size = omega arith in
       ap (λ (k : ℕ). map (entry_at after) (numbers k 0)) (add-one d.size)
@@ -86,16 +70,11 @@ module _ (d : Drawing) (p l : ℕ) (m : Bool) (a : ℕ) (sized : Sized d) (room 
       ∙ ap₂ (λ (xs : List Dressed) (y : Dressed). xs ++ (y ∷ [])) (map_agree (entry_at after) (entry_at d) d.size 0 (λ x u v. before_same x (omega arith)))
       (ap (entry_at after) z ∙ here_new)
 
-  pub entered : Entered d (record { parents = set d.parents d.size p; labels = set d.labels d.size l; marks = set d.marks d.size m; size = d.size + 1; above = a }) (record { parent = p; label = l; mark = m }) a
+  pub entered : Entered d (record { entries = set d.entries d.size entry; size = d.size + 1; above = a }) (dressed entry) a
   unfolding sketch after
   entered =
       record {
-        sized =
-            record {
-              parents = length-set d.parents d.size p ∙ sized.parents;
-              labels = length-set d.labels d.size l ∙ sized.labels;
-              marks = length-set d.marks d.size m ∙ sized.marks;
-            };
+        sized = record { entries = length-set d.entries d.size entry ∙ sized.entries };
         size = refl;
         sketched = same_sketch grown refl;
       }

@@ -78,7 +78,7 @@ module _ {κ : ℕ → Class} {every last : Bool} where
 
 -- the next branch hangs under t
 unfoldable pub hung : Drawing → ℕ → Drawing
-hung d t = record { parents = d.parents; labels = d.labels; marks = d.marks; size = d.size; above = t }
+hung d t = record { entries = d.entries; size = d.size; above = t }
 
 module _ (κ : ℕ → Class) (whole : Bool) where
   -- branches i, i + 1, .. are left
@@ -98,7 +98,7 @@ module _ {κ : ℕ → Class} {whole : Bool} where
   unfolding hung
   branching_room {i = i} t h few short b k e =
       record {
-        sized = record { parents = b.sized.parents; labels = b.sized.labels; marks = b.sized.marks };
+        sized = record { entries = b.sized.entries };
         room = let a = b.short in let c = h.room in let l = short i k in let f = ap length e in omega arith;
       }
 

@@ -1,5 +1,5 @@
--- The pattern drawn node after node, "each any-path drawn as one filler element", "each element .. followed at once by a filler attribute":
--- document 01, "The counterexample that is written". What the code has drawn so far is such a sketch.
+-- The pattern drawn node after node, "each any-path drawn as one filler element", "each element .. followed at once by a filler attribute".
+-- What the code has drawn so far is such a sketch.
 use Rattle.std.specs.Prelude.{ℕ, ◌+◌, ◌-◌, ◌≤◌, ◌<◌, ◌≡◌, Bool, true, false, cond, ◌&&◌, ◌||◌, List, [], ◌∷◌, ◌++◌, map, length, get_or, take, drop}
 use Rattle.meaning.specs.Limits.{filler_attribute, root_label}
 use Rattle.meaning.specs.Lists.{any, is_empty, numbers}
@@ -8,6 +8,7 @@ use Rattle.meaning.specs.Keys.{Key}
 use Rattle.meaning.specs.Records.{read_key, key_in, is_some}
 use Rattle.meaning.specs.Pattern.{Dressed, drawn, q_of, t_of}
 use Rattle.write_pattern.specs.declared.Drawing.{Drawing}
+use Rattle.write_pattern.specs.declared.Entry.{Entry}
 
 -- The numbers given so far, and the number under which the next node hangs
 pub record Sketch : Type 0 where
@@ -59,17 +60,21 @@ draw_twigs κ asked s = draw_branches κ (any is_empty asked.paths) s.above s as
 unfoldable pub draw_below : (ℕ → Class) → Key → ℕ → Sketch → Sketch
 draw_below κ asked u s = draw_twigs κ asked (draw_down κ asked u s)
 
--- What the arrays of a drawing say
+-- What the array of a drawing says
+unfoldable pub dressed : Entry → Dressed
+dressed e = record { parent = e.parent; label = e.label; mark = e.mark }
+
+abbrev pub no_entry : Entry
+no_entry = record { parent = 0; label = 0; mark = false }
+
 unfoldable pub entry_at : Drawing → ℕ → Dressed
-entry_at d x = record { parent = get_or d.parents x 0; label = get_or d.labels x 0; mark = get_or d.marks x false }
+entry_at d x = dressed (get_or d.entries x no_entry)
 
 unfoldable pub sketch : Drawing → Sketch
 sketch d = record { entries = map (entry_at d) (numbers d.size 0); above = d.above }
 
 pub record Sized (d : Drawing) : Type 0 where
-  pub parents : length d.parents ≡ 128
-  pub labels : length d.labels ≡ 128
-  pub marks : length d.marks ≡ 128
+  pub entries : length d.entries ≡ 128
 
 -- There is room for so many numbers more
 pub record Room (d : Drawing) (more : ℕ) : Type 0 where

@@ -1,18 +1,17 @@
-// The pattern of the asked key, drawn node after node: document 01, "The counterexample that is written".
+// The pattern of the asked key, drawn node after node: from the root to u, on to t, and a branch for each key path.
 #![tactic(auto)]
 
 ghost use Rattle.std.specs.Prelude.{◌≡◌, true, ◌&&◌, ◌||◌, ◌+◌, ◌*◌, ◌<◌, length};
 ghost use Rattle.meaning.specs.Records.{key_in};
 ghost use Rattle.meaning.specs.Pattern.{drawn as drawn_as};
 ghost use Rattle.read_record.specs.Classes.{class_by};
-ghost use Rattle.write_pattern.specs.Sketch.{Room, Shown, Entered, Sizes, Sketchable, nothing, sketch};
+ghost use Rattle.write_pattern.specs.Sketch.{Room, Shown, dressed, Entered, Sizes, Sketchable, nothing, sketch};
 ghost use Rattle.write_pattern.specs.Sketch.{add_to, draw_run, draw_branches, draw_trunk, draw_below};
 
 use read_record::classes::is_element;
-use read_record::fields::wide;
 use read_record::keys::{context, count, holds_empty, path, target};
 
-// 01's labels: "201 is a filler element, 202 a filler attribute, 203 the root"; "Symbol 0 in a path is the any-path"
+// The labels that no profile declares: "201 is a filler element, 202 a filler attribute, 203 the root"; "Symbol 0 in a path is the any-path"
 const ANY_PATH: u8 = 0;
 
 const FILLER_ELEMENT: u8 = 201;
@@ -21,13 +20,20 @@ const FILLER_ATTRIBUTE: u8 = 202;
 
 const ROOT_LABEL: u8 = 203;
 
-// The numbers that the tree gives before it is doubled: at most 98, 2 for each of the pattern's 49 nodes. `above` is the number of the
-// node that the next one hangs under.
+// A node of the drawing: the number that it hangs under, its label and whether it is marked.
+#[derive(Clone, Copy, Debug, PartialEq, Eq)]
+pub struct Entry {
+    pub parent: u8,
+    pub label: u8,
+    pub mark: bool,
+}
+
+// The nodes that the tree has before it is doubled: at most 98, 2 for each of the pattern's 49. `above` is the number of the node that the
+// next one hangs under.
+// Stays: so many entries with their number beside them, because nothing here stands on the heap.
 #[derive(Clone, Copy)]
 pub struct Drawing {
-    pub parents: [u8; 128],
-    pub labels: [u8; 128],
-    pub marks: [bool; 128],
+    pub entries: [Entry; 128],
     pub size: usize,
     pub above: u8,
 }
@@ -35,26 +41,26 @@ pub struct Drawing {
 fn blank() -> Drawing
     ensures { Shown result nothing 0 }
 {
+    let entry = Entry {
+        parent: 0,
+        label: 0,
+        mark: false,
+    };
     Drawing {
-        parents: [0u8; 128],
-        labels: [0u8; 128],
-        marks: [false; 128],
+        entries: [entry; 128],
         size: 0,
         above: 0,
     }
 }
 
 // One number more.
-fn put(drawing: Drawing, parent: u8, label: u8, mark: bool, above: u8) -> Drawing
+fn put(drawing: Drawing, entry: Entry, above: u8) -> Drawing
     requires { Room drawing 1 }
-    ensures { Entered drawing result (record { parent = parent; label = label; mark = mark }) above }
+    ensures { Entered drawing result (dressed entry) above }
 {
-    let at = drawing.size;
     let mut d = drawing;
-    d.parents[at] = parent;
-    d.labels[at] = label;
-    d.marks[at] = mark;
-    d.size = at + 1;
+    d.entries[d.size] = entry;
+    d.size += 1;
     d.above = above;
     d
 }
@@ -64,14 +70,23 @@ fn add(drawing: Drawing, classes: &[u8; 256], label: u8, mark: bool) -> Drawing
     requires { Room drawing 2 }
     ensures { Shown result (add_to (class_by classes.now) (sketch drawing) label mark) (drawing.size + 2) }
 {
-    let size = drawing.size;
-    let at = size as u8;
-    let above = drawing.above;
-    let own = put(drawing, above, label, mark, at);
-    if is_element(classes, wide(label)) {
-        return put(own, at, FILLER_ATTRIBUTE, mark, at);
+    let at = drawing.size as u8;
+    let parent = drawing.above;
+    let entry = Entry {
+        parent,
+        label,
+        mark,
+    };
+    let own = put(drawing, entry, at);
+    if !is_element(classes, usize::from(label)) {
+        return own;
     }
-    own
+    let filler = Entry {
+        parent: at,
+        label: FILLER_ATTRIBUTE,
+        ..entry
+    };
+    put(own, filler, at)
 }
 
 // "each any-path drawn as one filler element"
@@ -87,13 +102,7 @@ fn drawn(symbol: u8) -> u8
 fn is_marked(every: bool, last: bool, ends: bool) -> bool
     ensures { result ≡ (every || (last && ends)) }
 {
-    if every {
-        return true;
-    }
-    if last {
-        return ends;
-    }
-    false
+    every || (last && ends)
 }
 
 // A path downwards. `every`: all its nodes are marked; `last`: its last one is.
@@ -102,11 +111,9 @@ fn draw_run(drawing: Drawing, classes: &[u8; 256], run: &[u8], every: bool, last
     ensures { Shown result (draw_run (class_by classes.now) every last (sketch drawing) run.now) (drawing.size + 2 * length run.now) }
 {
     let mut d = drawing;
-    let mut i = 0;
-    while i < run.len() {
+    for (i, &symbol) in run.iter().enumerate() {
         let mark = is_marked(every, last, i + 1 == run.len());
-        d = add(d, classes, drawn(run[i]), mark);
-        i += 1;
+        d = add(d, classes, drawn(symbol), mark);
     }
     d
 }
@@ -117,14 +124,11 @@ fn draw_branches(drawing: Drawing, asked: &[u8], classes: &[u8; 256], whole: boo
     ensures { Shown result (draw_branches (class_by classes.now) whole drawing.above (sketch drawing) (key_in asked.now).paths) (drawing.size + 64) }
 {
     let t = drawing.above;
-    let n = count(asked);
     let mut d = drawing;
-    let mut i = 0;
-    while i < n {
+    for i in 0..count(asked) {
         d.above = t;
         let key_path = path(asked, i);
         d = draw_run(d, classes, key_path, whole, true);
-        i += 1;
     }
     d
 }

@@ -1,4 +1,6 @@
 // The proof that the decider writes: ARGUMENT, section 5. "Take every remembered step, last first".
+// Stays: buffer and place go in and the next place comes out, because a struct that holds the `&mut` owes in each function that it holds it still, and is
+// no plainer.
 #![tactic(auto)]
 
 ghost use Rattle.std.specs.Prelude.{◌≡◌, [], ◌∷◌, ◌+◌, ◌≤◌, ◌<◌, length, cond, ltb};
@@ -60,11 +62,14 @@ fn write_on(
     ensures { WroteLines out.old out.new place.at (step_on row.now (key_in asked.now) (key_in cited.now) taken.key taken.node taken.spot place.lines) result }
 {
     let chain = context(asked).len() + target(asked).len();
-    let node = taken.node;
-    let spot = taken.spot;
-    let next = write_opening(out, place, row, cited, taken.key, node, spot);
+    let Taken {
+        key,
+        node,
+        spot,
+        ..
+    } = taken;
     let behind = Place {
-        at: next,
+        at: write_opening(out, place, row, cited, key, node, spot),
         lines: place.lines,
     };
     let step = Step { chain, node, spot };
@@ -74,7 +79,7 @@ fn write_on(
     if holds_empty(asked) {
         return write_empty(out, behind, row, step, asked, cited);
     }
-    write_end(out, next, place.lines, row, chain, node, asked)
+    write_end(out, behind, row, chain, node, asked)
 }
 
 // The lines of a step with the cited key's body.
@@ -90,22 +95,17 @@ fn write_step(out: &mut [u8], place: Place, asked: &[u8], cited: &[u8], taken: T
 // The lines of a remembered step: key number s is record labels + s, where so many records stand before the keys.
 fn write_taken(
     out: &mut [u8],
-    at: usize,
-    lines: usize,
+    place: Place,
     profile: &[u8],
     labels: usize,
     asked: &[u8],
     step: Taken,
 ) -> usize
-    requires { TakenReady profile.now labels asked.now (step_of step) × StepRoom out.old at lines }
-    ensures { WroteLines out.old out.new at (taken_by profile.now labels (key_in asked.now) (step_of step) lines) result }
+    requires { TakenReady profile.now labels asked.now (step_of step) × StepRoom out.old place.at place.lines }
+    ensures { WroteLines out.old out.new place.at (taken_by profile.now labels (key_in asked.now) (step_of step) place.lines) result }
 {
     let rest = record_at(profile, labels + step.key);
     let end = front_length(rest);
-    let place = Place {
-        at: at,
-        lines: lines,
-    };
     write_step(out, place, asked, &rest[HEAD_BYTES..end], step)
 }
 
@@ -115,27 +115,19 @@ fn step_size(asked: &[u8], spot: usize) -> usize
     ensures { result ≡ size_of (key_in asked.now) spot }
 {
     let chain = context(asked).len() + target(asked).len();
-    let empty = holds_empty(asked);
-    if spot <= chain {
-        if empty {
-            return CHAIN_EMPTY_LINES;
-        }
-        return CHAIN_LINES;
+    match (spot <= chain, holds_empty(asked)) {
+        (true, true) => CHAIN_EMPTY_LINES,
+        (true, false) => CHAIN_LINES,
+        (false, true) => BRANCH_EMPTY_LINES,
+        (false, false) => BRANCH_LINES,
     }
-    if empty {
-        return BRANCH_EMPTY_LINES;
-    }
-    BRANCH_LINES
 }
 
 // Where the loop ended above t, t is an attribute alone, and rule 10 has no premise either.
 fn first_rule(u: usize, end: usize) -> usize
     ensures { result ≡ cond (ltb u end) 10 1 }
 {
-    if u < end {
-        return ONE_ATTRIBUTE;
-    }
-    EPSILON
+    if u < end { ONE_ATTRIBUTE } else { EPSILON }
 }
 
 // K u over the line from root to t.
@@ -171,20 +163,20 @@ pub fn write_proof(
     requires { ProofReady out.old profile.now labels asked.now u steps count }
     ensures { WroteLines out.old out.new 0 (proof_by profile.now labels (key_in asked.now) u (steps_below steps count)) result }
 {
-    let mut at = write_first(out, asked, u);
-    let mut lines = 1;
-    let mut left = count;
-    while 0 < left {
-        left -= 1;
-        let step = steps[left];
-        at = write_taken(out, at, lines, profile, labels, asked, step);
-        lines += step_size(asked, step.spot);
+    let mut place = Place {
+        at: write_first(out, asked, u),
+        lines: 1,
+    };
+    for n in (0..count).rev() {
+        let step = steps[n];
+        place.at = write_taken(out, place, profile, labels, asked, step);
+        place.lines += step_size(asked, step.spot);
     }
     write_of_key(
         out,
-        at,
+        place.at,
         CONTEXT_TARGET,
-        lines - 1,
+        place.lines - 1,
         context(asked),
         target(asked),
         asked,

@@ -1,5 +1,5 @@
 -- The lines of a report one after the other; one law for each return of the writers.
-use Rattle.std.specs.Prelude.{ℕ, zero, suc, ◌+◌, ◌-◌, ◌*◌, ◌<◌, ◌≤◌, ◌≡◌, refl, Bool, true, false, cond, ltb, length, get_or}
+use Rattle.std.specs.Prelude.{ℕ, zero, suc, ◌+◌, ◌-◌, ◌*◌, ◌<◌, ◌≤◌, ◌≡◌, refl, Some, Bool, true, false, cond, ltb, length, get_or}
 use Rattle.std.proofs.Common.{sym, ◌∙◌, ap, ap₂, subst, arith, add-zero, lt-ltb, le-ltb}
 use mathlib.Core.List.{List, [], ◌∷◌, ◌++◌, map, flatten, append_assoc, append-nil}
 use Rattle.meaning.specs.Lists.{numbers, keep}
@@ -7,7 +7,7 @@ use Rattle.meaning.specs.Listing.{decimal, newline}
 use Rattle.meaning.specs.Campaign.{key_line, refusal_line, occurred, report_bytes}
 use Rattle.meaning.specs.Tally.{Tally, counts_of}
 use Rattle.write_bytes.specs.Wrote.{Wrote, wrote_more, wrote_none, wrote_is}
-use Rattle.write_listing.specs.Lines.{field, field_length}
+use Rattle.write_listing.specs.Lines.{field, field_of, field_some, field_length}
 
 -- Lines of so many numbers, from a number on
 unfoldable pub lines_from : (ℕ → List ℕ) → ℕ → ℕ → List ℕ
@@ -74,21 +74,26 @@ pub record TwoWritten (out end : List ℕ) (at number count next : ℕ) : Type 0
   pub wrote : Wrote out end at (two_fields number count) next
   pub short : next ≤ at + 22
 
--- the place and the room behind a field
-pub field_place : {out mid : List ℕ} {at next : ℕ} (n end : ℕ) → n < 4294967296 → Wrote out mid at (field true n end) next → next ≤ at + 11
-field_place n end small w = let l = field_length true n end small in let a = w.after in omega arith
+-- a number from another type
+pub field_as : {out end : List ℕ} {at next n m : ℕ} (byte : ℕ) → m ≡ n → Wrote out end at (field_of (Some m) byte) next
+    → Wrote out end at (field_of (Some n) byte) next
+field_as byte e = wrote_is (ap (λ (k : ℕ). field_of (Some k) byte) e)
 
-pub field_room : {out mid : List ℕ} {at next : ℕ} (n end k : ℕ) → n < 4294967296 → Wrote out mid at (field true n end) next → at + 11 + k ≤ length out → next + k ≤ length mid
+-- the place and the room behind a field
+pub field_place : {out mid : List ℕ} {at next : ℕ} (n end : ℕ) → n < 4294967296 → Wrote out mid at (field_of (Some n) end) next → next ≤ at + 11
+field_place n end small w = let l = field_length true n end small in let a = (wrote_is (field_some n end) w).after in omega arith
+
+pub field_room : {out mid : List ℕ} {at next : ℕ} (n end k : ℕ) → n < 4294967296 → Wrote out mid at (field_of (Some n) end) next → at + 11 + k ≤ length out → next + k ≤ length mid
 field_room n end k small w h = let p = field_place n end small w in let e = w.kept in omega arith
 
 pub three_written : {o a b c : List ℕ} {at p q r n kept broken : ℕ} → n < 4294967296 → kept < 4294967296 → broken < 4294967296
-    → Wrote o a at (field true n 32) p → Wrote a b p (field true kept 32) q → Wrote b c q (field true broken 10) r → ThreeWritten o c at n kept broken r
+    → Wrote o a at (field_of (Some n) 32) p → Wrote a b p (field_of (Some kept) 32) q → Wrote b c q (field_of (Some broken) 10) r → ThreeWritten o c at n kept broken r
 unfolding three_fields
 three_written {n = n} {kept} {broken} ns ks bs w w₂ w₃ =
     let x = field_place n 32 ns w in
     let y = field_place kept 32 ks w₂ in
     let z = field_place broken 10 bs w₃ in
-    record { wrote = wrote_more w (wrote_more w₂ w₃); short = omega arith }
+    record { wrote = wrote_more (wrote_is (field_some n 32) w) (wrote_more (wrote_is (field_some kept 32) w₂) (wrote_is (field_some broken 10) w₃)); short = omega arith }
 
 pub two_none : (o : List ℕ) (at number count : ℕ) → at + 22 ≤ length o → count ≡ 0 → TwoWritten o o at number count at
 unfolding two_fields
@@ -96,12 +101,12 @@ two_none o at number count room e =
     record { wrote = wrote_is (rw (le-ltb 0 count (omega arith)) refl) (wrote_none o at (omega arith)); short = omega arith }
 
 pub two_written : {o a b : List ℕ} {at p q number count : ℕ} → number < 4294967296 → count < 4294967296 → (count ≡ 0 → ⊥)
-    → Wrote o a at (field true number 32) p → Wrote a b p (field true count 10) q → TwoWritten o b at number count q
+    → Wrote o a at (field_of (Some number) 32) p → Wrote a b p (field_of (Some count) 10) q → TwoWritten o b at number count q
 unfolding two_fields
 two_written {number = number} {count} ns cs some w w₂ =
     let x = field_place number 32 ns w in
     let y = field_place count 10 cs w₂ in
-    record { wrote = wrote_is (rw (lt-ltb 0 count (omega arith)) refl) (wrote_more w w₂); short = omega arith }
+    record { wrote = wrote_is (rw (lt-ltb 0 count (omega arith)) refl) (wrote_more (wrote_is (field_some number 32) w) (wrote_is (field_some count 10) w₂)); short = omega arith }
 
 -- The lines of the first n keys
 pub record KeysWritten (out end : List ℕ) (n : ℕ) (kept broken : List ℕ) (at : ℕ) : Type 0 where
@@ -167,7 +172,7 @@ refusals_all {out} {end} {refused} {start} {at = at} w low high = subst (λ (k :
 
 -- The whole report
 pub report_written : {o a b c d word : List ℕ} {keys p q r s : ℕ} (t : Tally) → KeysWritten o a keys t.kept t.broken p → RefusalsTo a b p 20 t.refused q
-    → word ≡ 117 ∷ 110 ∷ 114 ∷ 101 ∷ 97 ∷ 100 ∷ 32 ∷ [] → Wrote b c q word r → Wrote c d r (field true t.unread 10) s
+    → word ≡ 117 ∷ 110 ∷ 114 ∷ 101 ∷ 97 ∷ 100 ∷ 32 ∷ [] → Wrote b c q word r → Wrote c d r (field_of (Some t.unread) 10) s
     → Wrote o d 0 (report_bytes keys (counts_of t)) s
 unfolding report_bytes occurred field flatten lines_from counts_of
 report_written {word = word} {keys = keys} t w w₂ e w₃ w₄ =
@@ -177,7 +182,7 @@ report_written {word = word} {keys = keys} t w w₂ e w₃ w₄ =
     let third : word ++ (decimal t.unread ++ (10 ∷ [])) ≡ (117 ∷ 110 ∷ 114 ∷ 101 ∷ 97 ∷ 100 ∷ 32 ∷ []) ++ (decimal t.unread ++ newline) =
     ap (λ (x : List ℕ). x ++ (decimal t.unread ++ (10 ∷ []))) e in
     wrote_is (ap₂ (λ (x y : List ℕ). x ++ y) first (ap₂ (λ (x y : List ℕ). x ++ y) second third))
-    (wrote_more w.wrote (wrote_more w₂.wrote (wrote_more w₃ w₄)))
+    (wrote_more w.wrote (wrote_more w₂.wrote (wrote_more w₃ (wrote_is (field_some t.unread 10) w₄))))
 
 -- the room behind the lines
 pub keys_behind : {out end kept broken : List ℕ} {keys at : ℕ} → KeysWritten out end keys kept broken at → keys ≤ 64 → 65536 ≤ length out → at + 440 ≤ length end

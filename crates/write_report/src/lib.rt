@@ -1,5 +1,7 @@
-// The lines of a campaign's report (document 02, request 12), written into a lent buffer: "one line a key (number, kept, broken), then number and
+// The lines of a campaign's report, written into a lent buffer: "one line a key (number, kept, broken), then number and
 // count for each refusal number that occurred, ascending, then `unread` and the count of unreadable names".
+// Stays: buffer and place go in and the next place comes out, because a struct that holds the `&mut` owes in each function that it holds it still, and is
+// no plainer.
 #![tactic(auto)]
 
 ghost use Rattle.std.specs.Prelude.{◌+◌, ◌≤◌, ◌<◌, ◌≡◌, length};
@@ -22,9 +24,9 @@ fn put_key(out: &mut [u8], at: usize, n: usize, kept: u16, broken: u16) -> usize
     requires { (n < 64) × (at + 33 ≤ length out.old) }
     ensures { ThreeWritten out.old out.new at n kept broken result }
 {
-    let after_number = put_field(out, at, true, n, SPACE);
-    let after_kept = put_field(out, after_number, true, kept as usize, SPACE);
-    put_field(out, after_kept, true, broken as usize, NEWLINE)
+    let after_number = put_field(out, at, Some(n), SPACE);
+    let after_kept = put_field(out, after_number, Some(usize::from(kept)), SPACE);
+    put_field(out, after_kept, Some(usize::from(broken)), NEWLINE)
 }
 
 fn put_keys(
@@ -37,10 +39,8 @@ fn put_keys(
     ensures { KeysWritten out.old out.new keys kept broken result }
 {
     let mut at = 0;
-    let mut n = 0;
-    while n < keys {
+    for n in 0..keys {
         at = put_key(out, at, n, kept[n], broken[n]);
-        n += 1;
     }
     at
 }
@@ -53,8 +53,8 @@ fn put_refusal(out: &mut [u8], at: usize, number: usize, count: u16) -> usize
     if count == 0 {
         return at;
     }
-    let after_number = put_field(out, at, true, number, SPACE);
-    put_field(out, after_number, true, count as usize, NEWLINE)
+    let after_number = put_field(out, at, Some(number), SPACE);
+    put_field(out, after_number, Some(usize::from(count)), NEWLINE)
 }
 
 fn put_refusals(out: &mut [u8], start: usize, refused: [u16; NUMBERS]) -> usize
@@ -62,10 +62,8 @@ fn put_refusals(out: &mut [u8], start: usize, refused: [u16; NUMBERS]) -> usize
     ensures { RefusalsTo out.old out.new start 20 refused result }
 {
     let mut at = start;
-    let mut number = 1;
-    while number < NUMBERS {
+    for number in 1..NUMBERS {
         at = put_refusal(out, at, number, refused[number]);
-        number += 1;
     }
     at
 }
@@ -75,12 +73,8 @@ pub fn put_report(out: &mut [u8], keys: usize, t: Tally) -> usize
     requires { (keys ≤ 64) × (65536 ≤ length out.old) }
     ensures { Wrote out.old out.new 0 (report_bytes keys (counts_of (tally_of t))) result }
 {
-    let kept = t.kept;
-    let broken = t.broken;
-    let refused = t.refused;
-    let unread = t.unread;
-    let after_keys = put_keys(out, keys, kept, broken);
-    let after_refusals = put_refusals(out, after_keys, refused);
+    let after_keys = put_keys(out, keys, t.kept, t.broken);
+    let after_refusals = put_refusals(out, after_keys, t.refused);
     let after_word = put(out, after_refusals, b"unread ");
-    put_field(out, after_word, true, unread as usize, NEWLINE)
+    put_field(out, after_word, Some(usize::from(t.unread)), NEWLINE)
 }

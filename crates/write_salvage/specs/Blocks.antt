@@ -4,6 +4,7 @@ use Rattle.std.proofs.Common.{sym, ◌∙◌, ap, ap₂, subst, arith, zero-add,
 use mathlib.Core.List.{List, [], ◌∷◌, ◌++◌, flatten, append-nil}
 use Rattle.std.proofs.Math.Decide.{dec_lt}
 use lib.Dec.{eqb, ltb}
+use mir.Val.{bool_byte}
 use borrow.Author.Tests.{lt-ltb, le-ltb, ltb-true, ltb-false, eq-eqb, ne_eqb}
 use Rattle.meaning.specs.Limits.{block_lines}
 use Rattle.meaning.specs.Salvage.{salvaged_line, drop_lines}
@@ -221,15 +222,26 @@ told_count reasons stopped h = count stopped h ∙ (sym (length-append (drop_lin
     count (suc zero) l = refl
     count (suc (suc n)) l = absurd (omega arith)
 
+-- the number of a Bool
+pub one_if : (b : Bool) → bool_byte b ≡ cond b 1 0
+one_if true = refl
+one_if false = refl
+
+one_at_most : (b : Bool) → cond b 1 0 ≤ 1
+one_at_most true = omega arith
+one_at_most false = omega arith
+
 -- the first line and those of the records, and that of the last
-pub dropped_all : {out mid end : List ℕ} {start at count next count' : ℕ} (reasons : List ℕ) (dropped stopped : ℕ) → stopped ≤ 1
-    → dropped ≡ length (drop_lines 0 reasons) → Window out mid start (salvaged_line (dropped + stopped) ∷ drop_lines 0 reasons) at count 0
-    → Puts mid end start at count (drop_of (length reasons) stopped) next count' 0
-    → Window out end start (dropped_lines (told reasons stopped)) next count' 0
+pub dropped_all : {out mid end : List ℕ} {start at count next count' : ℕ} (reasons : List ℕ) (dropped n : ℕ) (stopped : Bool) → n ≡ cond stopped 1 0
+    → dropped ≡ length (drop_lines 0 reasons) → Window out mid start (salvaged_line (dropped + n) ∷ drop_lines 0 reasons) at count 0
+    → Puts mid end start at count (drop_of (length reasons) n) next count' 0
+    → Window out end start (dropped_lines (told reasons (cond stopped 1 0))) next count' 0
 unfolding dropped_lines
-dropped_all {out} {end = end} {start} {next = next} {count' = count'} reasons dropped stopped h e w p =
-    subst (λ (l : List (List ℕ)). Window out end start l next count' 0)
-    (ap₂ (λ (n : ℕ) (l : List (List ℕ)). salvaged_line n ∷ l) (ap (λ (n : ℕ). n + stopped) e ∙ told_count reasons stopped h) (drops_told reasons stopped)) (p.goes out _ 0 w)
+dropped_all {out} {end = end} {start} {next = next} {count' = count'} reasons dropped n stopped f e w p =
+    let h : n ≤ 1 = subst (λ (m : ℕ). m ≤ 1) (sym f) (one_at_most stopped) in
+    subst (λ (m : ℕ). Window out end start (salvaged_line (length (drop_lines 0 (told reasons m))) ∷ drop_lines 0 (told reasons m)) next count' 0) f
+    (subst (λ (l : List (List ℕ)). Window out end start l next count' 0)
+    (ap₂ (λ (m : ℕ) (l : List (List ℕ)). salvaged_line m ∷ l) (ap (λ (m : ℕ). m + n) e ∙ told_count reasons n h) (drops_told reasons n)) (p.goes out _ 0 w))
 
 -- The loop over the records: more lines since the first
 pub record Since (out₀ out : List ℕ) (start : ℕ) (head : List ℕ) (rest : List (List ℕ)) (at₀ count₀ at count : ℕ) : Type 0 where
@@ -263,12 +275,13 @@ module _ {out₀ mid head : List ℕ} {start at₀ count₀ at count : ℕ} (rea
       subst (λ (l : List ℕ). Window entry mid start (head ∷ drop_lines 0 l) at count 0) (take_all i reasons h) (s.goes entry w)
 
 -- how many lines there are at most
-pub dropped_most : {out end : List ℕ} {start at count spare : ℕ} (reasons : List ℕ) (stopped : ℕ) → stopped ≤ 1
-    → Window out end start (dropped_lines (told reasons stopped)) at count spare → count ≤ length reasons + 2
+pub dropped_most : {out end : List ℕ} {start at count spare : ℕ} (reasons : List ℕ) (stopped : Bool)
+    → Window out end start (dropped_lines (told reasons (cond stopped 1 0))) at count spare → count ≤ length reasons + 2
 unfolding dropped_lines
-dropped_most reasons stopped h w =
+dropped_most reasons stopped w =
     let m = drops_most 0 reasons in
-    let c = told_count reasons stopped h in
+    let h = one_at_most stopped in
+    let c = told_count reasons (cond stopped 1 0) h in
     let n = w.counted in
     omega arith
 

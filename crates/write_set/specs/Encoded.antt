@@ -1,11 +1,11 @@
 -- Paths as bytes at the front of a buffer.
-use Rattle.std.specs.Prelude.{ℕ, ◌≤◌, ◌≡◌, refl, Bool, true, ◌&&◌, length, take}
-use Rattle.std.proofs.Common.{sym, ◌∙◌, ap, ap₂}
+use Rattle.std.specs.Prelude.{ℕ, ◌+◌, ◌≤◌, ◌≡◌, refl, Bool, true, ◌&&◌, length, take}
+use Rattle.std.proofs.Common.{sym, ◌∙◌, ap, ap₂, arith, length-append}
 use mathlib.Core.List.{List, [], ◌∷◌, ◌++◌, map, flatten, append_assoc}
 use Rattle.meaning.specs.Lists.{is_empty}
 use Rattle.meaning.specs.Records.{path_bytes}
 use Rattle.read_record.specs.BodyParts.{after_path, paths_end, paths_of}
-use Rattle.read_record.specs.PathBytes.{holds_front, lead_front, after_front}
+use Rattle.read_record.specs.PathBytes.{paths_bytes, holds_front, lead_front, after_front}
 
 unfoldable pub bytes_of : List (List ℕ) → List ℕ
 bytes_of ps = flatten (map path_bytes ps)
@@ -45,3 +45,12 @@ set_in ps w n e =
       ends = ap₂ paths_end n e ∙ encoded_ends ps;
       are = ap₂ paths_of n e ∙ encoded_are ps;
     }
+
+-- one path more, and a set that is read
+pub bytes_more : (q : List ℕ) (qs : List (List ℕ)) → length (bytes_of (q ∷ qs)) ≡ length q + 1 + length (bytes_of qs)
+unfolding bytes_of flatten path_bytes
+bytes_more q qs = let e = length-append (length q ∷ q) (bytes_of qs) in omega arith
+
+pub set_bytes : (count : ℕ) (paths : List ℕ) → paths_end count paths ≡ true → bytes_of (paths_of count paths) ≡ paths
+unfolding bytes_of
+set_bytes count paths e = paths_bytes count paths e

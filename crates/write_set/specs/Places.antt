@@ -1,38 +1,39 @@
 -- Where a path belongs in a set: behind those paths that stand before it.
-use Rattle.std.specs.Prelude.{ℕ, zero, suc, ◌+◌, ◌-◌, ◌<◌, ◌≤◌, refl, Bool, true, false, take, drop}
+use Rattle.std.specs.Prelude.{ℕ, ◌+◌, ◌≤◌, refl, Bool, true, false, Option, take, drop}
+use Rattle.std.specs.Option.{MatchOption}
 use Rattle.std.proofs.Math.Path.{◌≡◌, sym, ap, ap₂}
-use Rattle.std.proofs.Common.{◌∙◌, sub-one, take_at, drop_at}
-use mathlib.Core.List.{List, [], ◌∷◌, ◌++◌, flatten, append_assoc, append-nil}
+use Rattle.std.proofs.Common.{◌∙◌, take_at, drop_at}
+use mathlib.Core.List.{List, [], ◌∷◌, ◌++◌, flatten, append_assoc}
 use native.Mathlib.Omega.{arith}
 use Rattle.std.proofs.Math.ListN.{length, length-append}
 use Rattle.meaning.specs.Lists.{same, before}
 use Rattle.meaning.specs.Records.{path_bytes}
-use Rattle.read_record.specs.BodyParts.{holds_path, lead_path, after_path, paths_end, paths_of}
-use Rattle.read_record.specs.KeyPaths.{paths_count, step_holds, step_ends}
-use Rattle.read_record.specs.PathBytes.{path_bytes_lem, paths_bytes}
+use Rattle.read_record.specs.BodyParts.{paths_end, paths_of}
+use Rattle.read_record.specs.KeyPaths.{paths_count}
 use Rattle.theory_derive.specs.Sets.{insert}
-use Rattle.write_set.specs.Encoded.{bytes_of, bytes_append}
+use Rattle.write_set.specs.Encoded.{bytes_of, bytes_append, bytes_more, set_bytes}
 
-pub record PlaceIn (count : ℕ) (paths path : List ℕ) (passed : ℕ) (held : Bool) : Type 0 where
+-- Put behind so many bytes, the path and the paths that stand there are these
+pub record PlaceIn (grown : List (List ℕ)) (count : ℕ) (paths path : List ℕ) (passed : ℕ) : Type 0 where
   pub within : passed ≤ length paths
-  pub new : held ≡ false → bytes_of (insert path (paths_of count paths)) ≡ take passed paths ++ (path_bytes path ++ drop passed paths)
-  pub more : held ≡ false → count + 1 ≡ length (insert path (paths_of count paths))
-  pub old : held ≡ true → insert path (paths_of count paths) ≡ paths_of count paths
+  pub new : bytes_of grown ≡ take passed paths ++ (path_bytes path ++ drop passed paths)
+  pub more : count + 1 ≡ length grown
 
--- Some paths are passed, so many are left
-pub record Seeking (count : ℕ) (paths path : List ℕ) (left : ℕ) (rest : List ℕ) : Type 0 where
-  pub passed : List (List ℕ)
-  pub fits : length rest ≤ length paths
-  pub number : length passed + left ≡ count
-  pub ends : paths_end left rest ≡ true
-  pub bytes : bytes_of passed ++ rest ≡ paths
-  pub whole : passed ++ paths_of left rest ≡ paths_of count paths
-  pub seeks : passed ++ insert path (paths_of left rest) ≡ insert path (paths_of count paths)
+-- Where a path belongs in a set; none where the set holds it
+abbrev pub Found : ℕ → List ℕ → List ℕ → Option ℕ → Type 0
+Found count paths path place =
+    MatchOption place (insert path (paths_of count paths) ≡ paths_of count paths) (PlaceIn (insert path (paths_of count paths)) count paths path)
 
-pub seek_start : (count : ℕ) (paths path : List ℕ) → paths_end count paths ≡ true → Seeking count paths path count paths
+-- Of these paths some are passed, in so many bytes; `grow` puts the path among them
+pub record Seeking (grow : List (List ℕ) → List (List ℕ)) (all : List (List ℕ)) (passed : ℕ) (rest : List (List ℕ)) : Type 0 where
+  pub front : List (List ℕ)
+  pub whole : front ++ rest ≡ all
+  pub seeks : front ++ grow rest ≡ grow all
+  pub number : passed ≡ length (bytes_of front)
+
+pub seek_start : (grow : List (List ℕ) → List (List ℕ)) (all : List (List ℕ)) → Seeking grow all 0 all
 unfolding bytes_of flatten
-seek_start count paths path e =
-    record { passed = []; fits = omega arith; number = omega arith; ends = e; bytes = refl; whole = refl; seeks = refl }
+seek_start grow all = record { front = []; whole = refl; seeks = refl; number = refl }
 
 module _ (q : List ℕ) (path : List ℕ) (qs : List (List ℕ)) where
   insert_before : before path q ≡ true → insert path (q ∷ qs) ≡ path ∷ q ∷ qs
@@ -47,99 +48,65 @@ module _ (q : List ℕ) (path : List ℕ) (qs : List (List ℕ)) where
   unfolding insert
   insert_behind e f = rw (e, f)
 
-pub rest_left : (left : ℕ) (rest : List ℕ) → 0 < left → paths_end left rest ≡ true → {next : List ℕ} → next ≡ after_path rest → paths_end (left - 1) next ≡ true
-rest_left zero rest h e n = absurd (omega arith)
-rest_left (suc left) rest h e n = rw (sub-one, n) (step_ends left rest e)
-
-pub paths_left : (left : ℕ) (rest : List ℕ) → 0 < left → {p : List ℕ} → p ≡ lead_path rest → {next : List ℕ} → next ≡ after_path rest
-    → paths_of left rest ≡ p ∷ paths_of (left - 1) next
-unfolding paths_of
-paths_left zero rest h f n = absurd (omega arith)
-paths_left (suc left) rest h f n = rw (sub-one, n, f)
-
-pub path_length : (rest : List ℕ) → holds_path rest ≡ true → {p : List ℕ} → p ≡ lead_path rest → {next : List ℕ} → next ≡ after_path rest
-    → length rest ≡ length p + 1 + length next
-unfolding path_bytes
-path_length rest h {p} f {next} n =
-    let e = ap length (path_bytes_lem rest h) in
-    let x = length-append (path_bytes (lead_path rest)) (after_path rest) in
-    let y = ap length f in
-    let z = ap length n in
-    omega arith
-
 -- where what is passed ends and what is left begins
-module _ (passed : List (List ℕ)) (rest : List ℕ) {paths : List ℕ} (bytes : bytes_of passed ++ rest ≡ paths) where
-  passed_length : length (bytes_of passed) ≡ length paths - length rest
-  passed_length = let e = length-append (bytes_of passed) rest in let f = ap length bytes in omega arith
+module _ {grow : List (List ℕ) → List (List ℕ)} (count : ℕ) (paths : List ℕ) {passed : ℕ} {rest : List (List ℕ)} (ends : paths_end count paths ≡ true)
+    (s : Seeking grow (paths_of count paths) passed rest) where
+  seek_split : bytes_of s.front ++ bytes_of rest ≡ paths
+  seek_split = sym (bytes_append s.front rest) ∙ ap bytes_of s.whole ∙ set_bytes count paths ends
 
-  pub passed_front : take (length paths - length rest) paths ≡ bytes_of passed
-  passed_front = ap (take (length paths - length rest)) (sym bytes) ∙ take_at (bytes_of passed) rest (length paths - length rest) passed_length
+  pub seek_within : passed + length (bytes_of rest) ≤ length paths
+  seek_within = let e = length-append (bytes_of s.front) (bytes_of rest) in let f = ap length seek_split in let n = s.number in omega arith
 
-  pub passed_rest : drop (length paths - length rest) paths ≡ rest
-  passed_rest = ap (drop (length paths - length rest)) (sym bytes) ∙ drop_at (bytes_of passed) rest (length paths - length rest) passed_length
-
-module _ {count : ℕ} {paths path : List ℕ} {left : ℕ} {rest : List ℕ} (s : Seeking count paths path left rest) where
   -- the path goes in front of what is left
-  here : insert path (paths_of left rest) ≡ path ∷ paths_of left rest → PlaceIn count paths path (length paths - length rest) false
+  pub place_here : {path : List ℕ} → grow rest ≡ path ∷ rest → PlaceIn (grow (paths_of count paths)) count paths path passed
   unfolding bytes_of flatten
-  here e =
-      let all : insert path (paths_of count paths) ≡ s.passed ++ (path ∷ paths_of left rest) = sym s.seeks ∙ ap (λ (l : List (List ℕ)). s.passed ++ l) e in
+  place_here {path} e =
+      let all : grow (paths_of count paths) ≡ s.front ++ (path ∷ rest) = sym s.seeks ∙ ap (λ (l : List (List ℕ)). s.front ++ l) e in
+      let front : take passed paths ≡ bytes_of s.front =
+      ap (take passed) (sym seek_split) ∙ take_at (bytes_of s.front) (bytes_of rest) passed (sym s.number) in
+      let behind : drop passed paths ≡ bytes_of rest =
+      ap (drop passed) (sym seek_split) ∙ drop_at (bytes_of s.front) (bytes_of rest) passed (sym s.number) in
       record {
-        within = omega arith;
-        new = λ _.
-            ap bytes_of all ∙ bytes_append s.passed (path ∷ paths_of left rest)
-            ∙ ap₂ (λ (a b : List ℕ). a ++ (path_bytes path ++ b)) (sym (passed_front s.passed rest s.bytes)) (paths_bytes left rest s.ends ∙ sym (passed_rest s.passed rest s.bytes));
-        more = λ _.
-            sym (ap length all ∙ length-append s.passed (path ∷ paths_of left rest)
-            ∙ (let n = paths_count left rest in let m = s.number in omega arith));
-        old = λ h. absurd (let z : ◌≡◌ {A = ℕ} 0 1 = cc in omega arith);
+        within = let w = seek_within in omega arith;
+        new =
+            ap bytes_of all ∙ bytes_append s.front (path ∷ rest)
+            ∙ ap₂ (λ (a b : List ℕ). a ++ (path_bytes path ++ b)) (sym front) (sym behind);
+        more =
+            sym (ap length all ∙ length-append s.front (path ∷ rest)
+            ∙ (let n = paths_count count paths in let m = ap length s.whole in let k = length-append s.front rest in omega arith));
       }
 
-  pub place_before : 0 < left → {q : List ℕ} → q ≡ lead_path rest → {b : Bool} → b ≡ before path q → b ≡ true
-      → PlaceIn count paths path (length paths - length rest) false
-  place_before h {q} f t u =
-      let e = paths_left left rest h f refl in
-      here (ap (insert path) e ∙ insert_before q path _ (sym t ∙ u) ∙ ap {B = List (List ℕ)} (λ (l : List (List ℕ)). path ∷ l) (sym e))
+-- one path more is passed
+pub seek_on : {grow : List (List ℕ) → List (List ℕ)} {all : List (List ℕ)} {passed next : ℕ} {q : List ℕ} {qs : List (List ℕ)}
+    → Seeking grow all passed (q ∷ qs) → next ≡ passed + (length q + 1) → grow (q ∷ qs) ≡ q ∷ grow qs → Seeking grow all next qs
+unfolding bytes_of flatten
+seek_on {grow} {q = q} {qs} s n step =
+    record {
+      front = s.front ++ (q ∷ []);
+      whole = append_assoc s.front (q ∷ []) qs ∙ s.whole;
+      seeks = append_assoc s.front (q ∷ []) (grow qs) ∙ ap (λ (b : List (List ℕ)). s.front ++ b) (sym step) ∙ s.seeks;
+      number =
+          let e = ap length (bytes_append s.front (q ∷ [])) in
+          let f = length-append (bytes_of s.front) (bytes_of (q ∷ [])) in
+          let g = bytes_more q [] in
+          let m = s.number in
+          omega arith;
+    }
 
-  pub place_held : 0 < left → {q : List ℕ} → q ≡ lead_path rest → {b : Bool} → b ≡ before path q → b ≡ false → {d : Bool} → d ≡ same path q → d ≡ true
-      → PlaceIn count paths path (length paths - length rest) true
-  place_held h {q} f t u v w =
-      let e = paths_left left rest h f refl in
-      record {
-        within = omega arith;
-        new = λ k. absurd (let z : ◌≡◌ {A = ℕ} 0 1 = cc in omega arith);
-        more = λ k. absurd (let z : ◌≡◌ {A = ℕ} 0 1 = cc in omega arith);
-        old = λ _.
-            sym s.seeks ∙ ap (λ (l : List (List ℕ)). s.passed ++ l) (ap (insert path) e ∙ insert_held q path _ (sym t ∙ u) (sym v ∙ w) ∙ sym e)
-            ∙ s.whole;
-      }
+-- of a set's paths
+module _ (path : List ℕ) {all : List (List ℕ)} {passed : ℕ} {q : List ℕ} {qs : List (List ℕ)} (s : Seeking (insert path) all passed (q ∷ qs))
+    {b d : Bool} (t : b ≡ before path q) (v : d ≡ same path q) where
+  pub place_held : b ≡ false → d ≡ true → insert path all ≡ all
+  place_held u w = sym s.seeks ∙ ap (λ (l : List (List ℕ)). s.front ++ l) (insert_held q path qs (sym t ∙ u) (sym v ∙ w)) ∙ s.whole
 
-  pub place_end : left ≤ 0 → PlaceIn count paths path (length paths - length rest) false
-  unfolding insert paths_of
-  place_end h = here (let z : left ≡ 0 = omega arith in rw z)
+  pub seek_next : b ≡ false → d ≡ false → {next : ℕ} → next ≡ passed + (length q + 1) → Seeking (insert path) all next qs
+  seek_next u w n = seek_on s n (insert_behind q path qs (sym t ∙ u) (sym v ∙ w))
 
-  pub seek_next : 0 < left → {q : List ℕ} → q ≡ lead_path rest → {b : Bool} → b ≡ before path q → b ≡ false → {d : Bool} → d ≡ same path q → d ≡ false
-      → {next : List ℕ} → next ≡ after_path rest → Seeking count paths path (left - 1) next
-  unfolding bytes_of flatten
-  seek_next h {q} f t u {d} v w {next} n =
-      let e = paths_left left rest h f n in
-      let holds = step_holds left rest h s.ends in
-      let l = path_length rest holds f n in
-      record {
-        passed = s.passed ++ (q ∷ []);
-        fits = let k = s.fits in omega arith;
-        number = let m = s.number in let k = length-append s.passed (q ∷ []) in omega arith;
-        ends = rest_left left rest h s.ends n;
-        bytes = ap (λ (b : List ℕ). b ++ next) (bytes_append s.passed (q ∷ []))
-            ∙ append_assoc (bytes_of s.passed) (bytes_of (q ∷ [])) next
-            ∙ ap (λ (b : List ℕ). bytes_of s.passed ++ b) (one q next ∙ ap₂ (λ (a b : List ℕ). path_bytes a ++ b) f n ∙ path_bytes_lem rest holds)
-            ∙ s.bytes;
-        whole = append_assoc s.passed (q ∷ []) (paths_of (left - 1) next) ∙ ap (λ (b : List (List ℕ)). s.passed ++ b) (sym e) ∙ s.whole;
-        seeks = append_assoc s.passed (q ∷ []) (insert path (paths_of (left - 1) next))
-            ∙ ap (λ (b : List (List ℕ)). s.passed ++ b)
-            (sym (ap (insert path) e ∙ insert_behind q path (paths_of (left - 1) next) (sym t ∙ u) (sym v ∙ w)))
-            ∙ s.seeks;
-      }
-    where
-      one : (q next : List ℕ) → bytes_of (q ∷ []) ++ next ≡ path_bytes q ++ next
-      one q next = ap (λ (l : List ℕ). l ++ next) (append-nil (path_bytes q))
+module _ (path : List ℕ) (count : ℕ) (paths : List ℕ) {passed : ℕ} (ends : paths_end count paths ≡ true) where
+  pub place_before : {q : List ℕ} {qs : List (List ℕ)} → Seeking (insert path) (paths_of count paths) passed (q ∷ qs) → {b : Bool} → b ≡ before path q → b ≡ true
+      → PlaceIn (insert path (paths_of count paths)) count paths path passed
+  place_before {q} {qs} s t u = place_here count paths ends s (insert_before q path qs (sym t ∙ u))
+
+  pub place_end : Seeking (insert path) (paths_of count paths) passed [] → PlaceIn (insert path (paths_of count paths)) count paths path passed
+  unfolding insert
+  place_end s = place_here count paths ends s refl

@@ -2,16 +2,15 @@
 use Rattle.std.specs.Prelude.{ℕ, ◌+◌, ◌-◌, ◌<◌, ◌≤◌, ◌≡◌, refl, true, take, drop}
 use Rattle.std.proofs.Math.Path.{sym, ap}
 use Rattle.std.proofs.Common.{◌∙◌, length-drop, drop_of_length-le}
-use mathlib.Core.List.{List, map}
+use mathlib.Core.List.{List, [], ◌∷◌, map}
 use native.Mathlib.Omega.{arith}
 use Rattle.std.proofs.Math.ListN.{length}
 use borrow.Author.Rules.{part_to_end}
-use Rattle.read_record.specs.BodyParts.{lead_path, after_path, paths_end, paths_of}
-use Rattle.read_record.specs.KeyPaths.{paths_count, step_holds}
+use Rattle.read_record.specs.BodyParts.{paths_end, paths_of}
+use Rattle.read_record.specs.KeyPaths.{paths_count}
 use Rattle.write_bytes.specs.Wrote.{Wrote, wrote_part}
 use Rattle.theory_derive.specs.Sets.{insert, unite}
-use Rattle.write_set.specs.Encoded.{SetIn}
-use Rattle.write_set.specs.Places.{rest_left, paths_left, path_length}
+use Rattle.write_set.specs.Encoded.{SetIn, bytes_of, bytes_more, set_bytes}
 use Rattle.write_set.specs.Inserts.{InsertFits, Inserted}
 
 pub beyond_none : (path : List ℕ) (front : ℕ) → length path < front → take (length path - length path) (drop (length path) path) ≡ drop front path
@@ -34,21 +33,21 @@ pub record United (buffer : List ℕ) (count : ℕ) (set : List ℕ) (front more
   pub fewer : many ≤ count + more
   pub shorter : used ≤ length set + length paths
 
--- So many paths are left to be put in
-pub record Uniting (buffer : List ℕ) (count : ℕ) (set : List ℕ) (front more : ℕ) (paths mid : List ℕ) (many used left : ℕ) (rest : List ℕ) : Type 0 where
-  pub ends : paths_end left rest ≡ true
+-- These paths are left to be put in
+pub record Uniting (buffer : List ℕ) (count : ℕ) (set : List ℕ) (front more : ℕ) (paths mid : List ℕ) (many used : ℕ) (rest : List (List ℕ)) : Type 0 where
   pub holds : paths_end many (take used mid) ≡ true
-  pub goes : unite (paths_of many (take used mid)) (map (drop front) (paths_of left rest)) ≡ united_of count set front more paths
+  pub goes : unite (paths_of many (take used mid)) (map (drop front) rest) ≡ united_of count set front more paths
   pub kept : length mid ≡ length buffer
-  pub fewer : many + left ≤ count + more
-  pub shorter : used + length rest ≤ length set + length paths
+  pub fewer : many + length rest ≤ count + more
+  pub shorter : used + length (bytes_of rest) ≤ length set + length paths
 
 pub uniting_start : {buffer mid set paths : List ℕ} {count more used : ℕ} (front : ℕ) → UniteFits buffer count set more paths → Wrote buffer mid 0 set used
-    → Uniting mid count set front more paths mid count used more paths
+    → Uniting mid count set front more paths mid count used (paths_of more paths)
 unfolding united_of
 uniting_start {set = set} {paths} {count} {more} {used} front f w =
+    let n = paths_count more paths in
+    let b = ap length (set_bytes more paths f.ends) in
     record {
-      ends = f.ends;
       holds = ap (paths_end count) (wrote_part w) ∙ f.set_ends;
       goes = ap (λ (l : List ℕ). unite (paths_of count l) (map (drop front) (paths_of more paths))) (wrote_part w);
       kept = refl;
@@ -62,19 +61,18 @@ pub unite_fits_in : {entry buffer set paths : List ℕ} {count more used : ℕ} 
 unite_fits_in f w =
     record { set_ends = f.set_ends; ends = f.ends; small = f.small; room = let r = f.room in let k = w.kept in omega arith; few = f.few }
 
-module _ {buffer set paths mid : List ℕ} {count front more many used left : ℕ} {rest : List ℕ} (f : UniteFits buffer count set more paths)
-    (u : Uniting buffer count set front more paths mid many used left rest) where
-  module _ (h : 0 < left) {p : List ℕ} (lead : p ≡ lead_path rest) {path : List ℕ} (is : path ≡ drop front p) where
-    path_room : {next : List ℕ} → next ≡ after_path rest → length path + 1 + length next ≤ length rest
-    path_room n =
-        let l = path_length rest (step_holds left rest h u.ends) lead n in
+module _ {buffer set paths mid : List ℕ} {count front more many used : ℕ} (f : UniteFits buffer count set more paths) where
+  module _ {p : List ℕ} {rest : List (List ℕ)} (u : Uniting buffer count set front more paths mid many used (p ∷ rest)) {path : List ℕ} (is : path ≡ drop front p) where
+    path_room : length path + 1 + length (bytes_of rest) ≤ length (bytes_of (p ∷ rest))
+    path_room =
+        let l = bytes_more p rest in
         let e = ap length is in
         let d = length-drop front p in
         omega arith
 
     pub uniting_fits : InsertFits mid many used path
     uniting_fits =
-        let r = path_room {next = after_path rest} refl in
+        let r = path_room in
         let s = u.shorter in
         let k = u.kept in
         let n = u.fewer in
@@ -83,37 +81,31 @@ module _ {buffer set paths mid : List ℕ} {count front more many used left : �
         let q = f.few in
         record { few = omega arith; path_short = omega arith; small = omega arith; room = omega arith; ends = u.holds }
 
-    pub uniting_next : {end : List ℕ} {grown last : ℕ} → Inserted mid many used path end grown last → {next : List ℕ} → next ≡ after_path rest
-        → Uniting buffer count set front more paths end grown last (left - 1) next
+    pub uniting_next : {end : List ℕ} {grown last : ℕ} → Inserted mid many used path end grown last → Uniting buffer count set front more paths end grown last rest
     unfolding unite
-    uniting_next {end} {grown} {last} i {next} n =
-        let r = path_room n in
+    uniting_next {end} {grown} {last} i =
+        let r = path_room in
         let s = u.shorter in
-        let e = paths_left left rest h lead n in
         record {
-          ends = rest_left left rest h u.ends n;
           holds = i.holds.ends;
-          goes = ap (λ (l : List (List ℕ)). unite l (map (drop front) (paths_of (left - 1) next)))
+          goes = ap (λ (l : List (List ℕ)). unite l (map (drop front) rest))
               (i.holds.are ∙ ap (λ (x : List ℕ). insert x (paths_of many (take used mid))) is)
-              ∙ sym (ap (λ (l : List (List ℕ)). unite (paths_of many (take used mid)) (map (drop front) l)) e)
               ∙ u.goes;
           kept = i.kept ∙ u.kept;
           fewer = let a = i.fewer in let b = u.fewer in omega arith;
           shorter = let a = i.shorter in omega arith;
         }
 
-  pub uniting_end : {entry : List ℕ} {start : ℕ} → Wrote entry buffer 0 set start → left ≤ 0 → United entry count set front more paths mid many used
-  unfolding unite paths_of
-  uniting_end w h =
-      let z : left ≡ 0 = omega arith in
+  pub uniting_end : {entry : List ℕ} {start : ℕ} → Uniting buffer count set front more paths mid many used [] → Wrote entry buffer 0 set start
+      → United entry count set front more paths mid many used
+  unfolding unite
+  uniting_end u w =
       let s = u.shorter in
       let k = u.kept in
       let m = f.small in
       let o = f.room in
-      let are : paths_of many (take used mid) ≡ united_of count set front more paths =
-      ap (λ (n : ℕ). unite (paths_of many (take used mid)) (map (drop front) (paths_of n rest))) (sym z) ∙ u.goes in
       record {
-        holds = record { within = omega arith; number = sym (ap length (sym are) ∙ paths_count many (take used mid)); ends = u.holds; are = are };
+        holds = record { within = omega arith; number = sym (ap length (sym u.goes) ∙ paths_count many (take used mid)); ends = u.holds; are = u.goes };
         kept = k ∙ w.kept;
         fewer = let b = u.fewer in omega arith;
         shorter = omega arith;

@@ -1,18 +1,19 @@
-// Sets of key paths in a lent buffer, each as its count and its bytes: document 01, "Key paths stand shorter first, equal lengths by bytes, none twice".
+// Sets of key paths in a lent buffer, each as its count and its bytes: "Key paths stand shorter first, equal lengths by bytes, none twice".
+// Stays: buffer and place go in and the next place comes out, because a struct that holds the `&mut` owes in each function that it holds it still, and is
+// no plainer.
 #![tactic(auto)]
 
 ghost use Rattle.std.specs.Prelude.{◌≡◌, true, ◌++◌, ◌+◌, ◌≤◌, ◌<◌, length, drop};
 ghost use Rattle.meaning.specs.Records.{path_bytes};
 ghost use Rattle.read_record.specs.BodyParts.{paths_end};
 ghost use Rattle.write_line.specs.LineParts.{Sized};
-ghost use Rattle.write_set.specs.Places.{PlaceIn};
-ghost use Rattle.write_set.specs.Inserts.{InsertFits, Inserted};
+ghost use Rattle.write_set.specs.Places.{Found};
+ghost use Rattle.write_set.specs.Inserts.{Spliced, InsertFits, Inserted};
 ghost use Rattle.write_set.specs.Unions.{UniteFits, United};
 ghost use Rattle.write_set.specs.Fronts.{FrontFits, Fronted};
 
 use read_key::order::before;
-use read_record::bodies::{after_path, lead_path};
-use read_record::names::same_bytes;
+use read_record::key::Paths;
 use write_bytes::put;
 use write_line::{put_number, put_path};
 
@@ -22,48 +23,39 @@ pub const SET_BYTES: usize = 256;
 // At most eight paths of eight symbols are united.
 pub const UNITED_BYTES: usize = 128;
 
-// Where a path belongs: behind so many bytes; held if it stands there already.
-#[derive(Clone, Copy)]
-pub struct Place {
-    pub passed: usize,
-    pub held: bool,
-}
-
 // So many paths in so many bytes at the front of a buffer.
-#[derive(Clone, Copy)]
+#[derive(Clone, Copy, Debug, PartialEq, Eq)]
 pub struct Set {
     pub count: usize,
     pub used: usize,
 }
 
-fn find_place(count: usize, paths: &[u8], path: &[u8]) -> Place
+// Behind how many bytes a path belongs; None where the set holds it already.
+fn find_place(count: usize, paths: &[u8], path: &[u8]) -> Option<usize>
     requires { paths_end count paths.now ≡ true }
-    ensures { PlaceIn count paths.now path.now result.passed result.held }
+    ensures { Found count paths.now path.now result }
 {
-    let mut rest = paths;
-    let mut left = count;
-    while 0 < left {
-        let other = lead_path(rest);
+    let mut passed = 0;
+    for other in Paths::new(paths, count) {
         if before(path, other) {
-            return Place {
-                passed: paths.len() - rest.len(),
-                held: false,
-            };
+            return Some(passed);
         }
-        if same_bytes(path, other) {
-            return Place {
-                passed: paths.len() - rest.len(),
-                held: true,
-            };
+        if path == other {
+            return None;
         }
-        let next = after_path(rest);
-        rest = next;
-        left -= 1;
+        passed += other.len() + 1;
     }
-    Place {
-        passed: paths.len() - rest.len(),
-        held: false,
-    }
+    Some(passed)
+}
+
+// A path put behind the first of the bytes used: what stood there moves on. The bytes then used.
+pub fn insert_behind(buffer: &mut [u8], passed: usize, used: usize, path: &[u8]) -> usize
+    requires { (length path.now < 256) × (passed ≤ used) × (used + length path.now + 1 ≤ length buffer.old) }
+    ensures { Spliced buffer.old passed used path.now buffer.new result }
+{
+    buffer.copy_within(passed..used, passed + path.len() + 1);
+    put_path(buffer, passed, path);
+    used + path.len() + 1
 }
 
 // A path put into its place; where the set holds it already, nothing changes.
@@ -71,18 +63,10 @@ pub fn insert_path(buffer: &mut [u8], count: usize, used: usize, path: &[u8]) ->
     requires { InsertFits buffer.old count used path.now }
     ensures { Inserted buffer.old count used path.now buffer.new result.count result.used }
 {
-    let place = find_place(count, &buffer[..used], path);
-    if place.held {
-        return Set {
-            count: count,
-            used: used,
-        };
-    }
-    let passed = place.passed;
-    let mut tail = [0u8; UNITED_BYTES];
-    let tail_end = put(&mut tail, 0, &buffer[passed..used]);
-    let next = put_path(buffer, passed, path);
-    let end = put(buffer, next, &tail[..tail_end]);
+    let Some(passed) = find_place(count, &buffer[..used], path) else {
+        return Set { count, used };
+    };
+    let end = insert_behind(buffer, passed, used, path);
     Set {
         count: count + 1,
         used: end,
@@ -93,11 +77,7 @@ pub fn insert_path(buffer: &mut [u8], count: usize, used: usize, path: &[u8]) ->
 fn beyond(path: &[u8], front: usize) -> &[u8]
     ensures { result.now ≡ drop front path.now }
 {
-    if path.len() < front {
-        let end = path.len();
-        return &path[end..];
-    }
-    &path[front..]
+    &path[front.min(path.len())..]
 }
 
 // "U = S united with S'": the second set's paths, each without its first symbols, put into the first.
@@ -112,23 +92,14 @@ pub fn unite_beyond(
     requires { UniteFits buffer.old count set.now more paths.now }
     ensures { United buffer.old count set.now front more paths.now buffer.new result.count result.used }
 {
-    let mut used = put(buffer, 0, set);
-    let mut n = count;
-    let mut rest = paths;
-    let mut left = more;
-    while 0 < left {
-        let path = beyond(lead_path(rest), front);
-        let grown = insert_path(buffer, n, used, path);
-        n = grown.count;
-        used = grown.used;
-        let next = after_path(rest);
-        rest = next;
-        left -= 1;
+    let mut grown = Set {
+        count,
+        used: put(buffer, 0, set),
+    };
+    for path in Paths::new(paths, more) {
+        grown = insert_path(buffer, grown.count, grown.used, beyond(path, front));
     }
-    Set {
-        count: n,
-        used: used,
-    }
+    grown
 }
 
 // One path behind another.
@@ -147,14 +118,8 @@ pub fn put_front(buffer: &mut [u8], front: &[u8], count: usize, paths: &[u8]) ->
     ensures { Fronted buffer.old front.now count paths.now buffer.new result }
 {
     let mut at = 0;
-    let mut rest = paths;
-    let mut left = count;
-    while 0 < left {
-        let path = lead_path(rest);
+    for path in Paths::new(paths, count) {
         at = put_joined(buffer, at, front, path);
-        let next = after_path(rest);
-        rest = next;
-        left -= 1;
     }
     at
 }

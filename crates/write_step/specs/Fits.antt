@@ -1,4 +1,4 @@
--- What the writers of a step ask: the sizes of document 01 for keys, and room for a line.
+-- What the writers of a step ask: the sizes that a key has in profile and question, and room for a line.
 use Rattle.std.specs.Prelude.{ℕ, ◌+◌, ◌-◌, ◌<◌, ◌≤◌, ◌≡◌, refl, true, length}
 use Rattle.std.proofs.Common.{sym, ◌∙◌, ap, arith}
 use mathlib.Core.List.{List, map, flatten}

@@ -32,8 +32,7 @@ pub fn write_opening(
     requires { OpeningFits out.old place.at place.lines row.now cited.now node spot }
     ensures { WroteLines out.old out.new place.at (opening_of row.now (key_in cited.now) key node spot place.lines) result }
 {
-    let at = place.at;
-    let lines = place.lines;
+    let Place { at, lines } = place;
     let aim = target(cited);
     let second = write_of_key(out, at, CITATION, key, context(cited), aim, cited);
     let third = write_of_key(out, second, CONTEXT_PATH, lines, &row[..node], aim, cited);
@@ -55,10 +54,7 @@ fn united_set(buffer: &mut [u8], asked: &[u8], cited: &[u8], front: usize) -> Se
         return unite_beyond(buffer, many, set, front, count(cited), paths(cited));
     }
     let used = put(buffer, 0, set);
-    Set {
-        count: many,
-        used: used,
-    }
+    Set { count: many, used }
 }
 
 // "rule 3: (A', (norm (C++T)[i..k], F.U)) · from K h by rule 7: (norm (C++T)[0..k], (F, S)) · rule 3: (.., (F, U))": the two
@@ -82,10 +78,9 @@ fn write_meeting(
         to: step.chain,
     };
     let third = write_along(out, second, CONTEXT_TARGET, lines - 1, row, span, asked);
-    let first = lines + 4;
     let head = Head {
         rule: SUPERKEY,
-        first: first,
+        first: lines + 4,
         second: NO_NUMBER,
     };
     write_part(out, third, head, row, span, many, united)
@@ -106,12 +101,10 @@ fn write_chain_lines(
 {
     let lines = place.lines;
     let next = write_meeting(out, place, row, step, asked, many, united);
-    let first = lines + 3;
-    let second = lines + 5;
     let head = Head {
         rule: INTERACTION,
-        first: first,
-        second: second,
+        first: lines + 3,
+        second: lines + 5,
     };
     let span = Span {
         from: step.node,
@@ -138,7 +131,5 @@ pub fn write_chain(
 {
     let mut buffer = [0u8; UNITED_BYTES];
     let set = united_set(&mut buffer, asked, cited, step.chain - step.spot);
-    let many = set.count;
-    let used = set.used;
-    write_chain_lines(out, place, row, step, asked, many, &buffer[..used])
+    write_chain_lines(out, place, row, step, asked, set.count, &buffer[..set.used])
 }

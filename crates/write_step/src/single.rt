@@ -17,21 +17,21 @@ use write_line::{Head, put_number, put_path, write_line};
 use write_set::{SET_BYTES, UNITED_BYTES, insert_path, put_front};
 
 // The part of the asked row from one symbol up to another: a line's target; its context stands before.
-#[derive(Clone, Copy)]
+#[derive(Clone, Copy, Debug, PartialEq, Eq)]
 pub struct Span {
     pub from: usize,
     pub to: usize,
 }
 
 // Where a step's lines are written, and how many proof lines stand before them.
-#[derive(Clone, Copy)]
+#[derive(Clone, Copy, Debug, PartialEq, Eq)]
 pub struct Place {
     pub at: usize,
     pub lines: usize,
 }
 
 // A step from `spot` up to chain node `node`; the chain, C and T, has so many symbols.
-#[derive(Clone, Copy)]
+#[derive(Clone, Copy, Debug, PartialEq, Eq)]
 pub struct Step {
     pub chain: usize,
     pub node: usize,
@@ -51,13 +51,12 @@ pub fn write_of_key(
     requires { OfKeyFits out.old at rule context.now target.now body.now }
     ensures { WroteLines out.old out.new at (one_line rule first (key_of context.now target.now (key_in body.now).paths) ∷ []) result }
 {
-    let many = count(body);
     let head = Head {
-        rule: rule,
-        first: first,
+        rule,
+        first,
         second: NO_NUMBER,
     };
-    write_line(out, at, head, context, target, many, paths(body))
+    write_line(out, at, head, context, target, count(body), paths(body))
 }
 
 // A line whose context and target are read off the asked row: up to `from`, and from there up to `to`.
@@ -73,8 +72,7 @@ pub fn write_part(
     requires { (head.rule < 256) × PartRoom out.old at row.now span.from span.to × SetFits many set.now }
     ensures { WroteLines out.old out.new at (two_line head.rule head.first head.second (key_along row.now span.from span.to (paths_of many set.now)) ∷ []) result }
 {
-    let from = span.from;
-    let to = span.to;
+    let Span { from, to } = span;
     write_line(out, at, head, &row[..from], &row[from..to], many, set)
 }
 
@@ -91,35 +89,26 @@ pub fn write_along(
     requires { (rule < 256) × PartRoom out.old at row.now span.from span.to × KeyBody body.now }
     ensures { WroteLines out.old out.new at (one_line rule first (key_along row.now span.from span.to (key_in body.now).paths) ∷ []) result }
 {
-    let many = count(body);
     let head = Head {
-        rule: rule,
-        first: first,
+        rule,
+        first,
         second: NO_NUMBER,
     };
-    write_part(out, at, head, row, span, many, paths(body))
+    write_part(out, at, head, row, span, count(body), paths(body))
 }
 
 // "rule 4": the rest of the row is the one key path.
-pub fn write_one(
-    out: &mut [u8],
-    at: usize,
-    first: usize,
-    row: &[u8],
-    from: usize,
-    to: usize,
-) -> usize
-    requires { PartRoom out.old at row.now from to }
-    ensures { WroteLines out.old out.new at (one_line 4 first (key_along row.now from to (between to (length row.now) row.now ∷ [])) ∷ []) result }
+pub fn write_one(out: &mut [u8], at: usize, first: usize, row: &[u8], span: Span) -> usize
+    requires { PartRoom out.old at row.now span.from span.to }
+    ensures { WroteLines out.old out.new at (one_line 4 first (key_along row.now span.from span.to (between span.to (length row.now) row.now ∷ [])) ∷ []) result }
 {
     let mut one = [0u8; 32];
-    let used = put_path(&mut one, 0, &row[to..]);
+    let used = put_path(&mut one, 0, &row[span.to..]);
     let head = Head {
         rule: SUBNODES,
-        first: first,
+        first,
         second: NO_NUMBER,
     };
-    let span = Span { from: from, to: to };
     write_part(out, at, head, row, span, 1, &one[..used])
 }
 
@@ -130,24 +119,20 @@ pub fn write_pair(
     rule: usize,
     first: usize,
     row: &[u8],
-    from: usize,
-    to: usize,
+    span: Span,
 ) -> usize
-    requires { (rule < 256) × PartRoom out.old at row.now from to }
-    ensures { WroteLines out.old out.new at (one_line rule first (key_along row.now from to (with_empty (between to (length row.now) row.now))) ∷ []) result }
+    requires { (rule < 256) × PartRoom out.old at row.now span.from span.to }
+    ensures { WroteLines out.old out.new at (one_line rule first (key_along row.now span.from span.to (with_empty (between span.to (length row.now) row.now))) ∷ []) result }
 {
     let mut buffer = [0u8; UNITED_BYTES];
     let behind = put_number(&mut buffer, 0, 0);
-    let set = insert_path(&mut buffer, 1, behind, &row[to..]);
-    let many = set.count;
-    let used = set.used;
+    let set = insert_path(&mut buffer, 1, behind, &row[span.to..]);
     let head = Head {
-        rule: rule,
-        first: first,
+        rule,
+        first,
         second: NO_NUMBER,
     };
-    let span = Span { from: from, to: to };
-    write_part(out, at, head, row, span, many, &buffer[..used])
+    write_part(out, at, head, row, span, set.count, &buffer[..set.used])
 }
 
 // "rule 3: S_s with e"
@@ -156,26 +141,22 @@ pub fn write_with_empty(
     at: usize,
     first: usize,
     row: &[u8],
-    from: usize,
-    to: usize,
+    span: Span,
     body: &[u8],
 ) -> usize
-    requires { PartRoom out.old at row.now from to × KeyBody body.now }
-    ensures { WroteLines out.old out.new at (one_line 3 first (key_along row.now from to (insert [] (key_in body.now).paths)) ∷ []) result }
+    requires { PartRoom out.old at row.now span.from span.to × KeyBody body.now }
+    ensures { WroteLines out.old out.new at (one_line 3 first (key_along row.now span.from span.to (insert [] (key_in body.now).paths)) ∷ []) result }
 {
     let mut buffer = [0u8; UNITED_BYTES];
     let bytes = paths(body);
     let behind = put(&mut buffer, 0, bytes);
     let set = insert_path(&mut buffer, count(body), behind, &bytes[..0]);
-    let many = set.count;
-    let used = set.used;
     let head = Head {
         rule: SUPERKEY,
-        first: first,
+        first,
         second: NO_NUMBER,
     };
-    let span = Span { from: from, to: to };
-    write_part(out, at, head, row, span, many, &buffer[..used])
+    write_part(out, at, head, row, span, set.count, &buffer[..set.used])
 }
 
 // "rule 3: (A', (norm (C++T)[i..k], F.U))": F, the line from the spot up to t, in front of each key path.
@@ -192,17 +173,15 @@ pub fn write_fronted(
     ensures { WroteLines out.old out.new at (one_line 3 first (key_along row.now step.node step.spot (in_front (between step.spot step.chain row.now) (paths_of many set.now))) ∷ []) result }
 {
     let mut buffer = [0u8; SET_BYTES];
-    let spot = step.spot;
-    let chain = step.chain;
-    let used = put_front(&mut buffer, &row[spot..chain], many, set);
+    let used = put_front(&mut buffer, &row[step.spot..step.chain], many, set);
     let head = Head {
         rule: SUPERKEY,
-        first: first,
+        first,
         second: NO_NUMBER,
     };
     let span = Span {
         from: step.node,
-        to: spot,
+        to: step.spot,
     };
     write_part(out, at, head, row, span, many, &buffer[..used])
 }

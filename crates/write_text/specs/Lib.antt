@@ -1,3 +1,4 @@
+pub mod Names
 pub mod Texts
 pub mod Labels
 pub mod Looking

@@ -18,6 +18,12 @@ pub record Looking (n left : ℕ) (rest w : List ℕ) : Type 0 where
   pub records : Standing 6 left rest
   pub here : declared_text (labels_at left rest) n ≡ w
 
+pub looking_start : (n count : ℕ) (labels : List ℕ) → Standing 6 count labels → Looking n count labels (declared_text (labels_at count labels) n)
+looking_start n count labels s = record { records = s; here = refl }
+
+pub looking_as : {n left more : ℕ} {rest w : List ℕ} → left ≡ more → Looking n left rest w → Looking n more rest w
+looking_as {n} {rest = rest} {w} e = subst (λ (k : ℕ). Looking n k rest w) e
+
 -- the buffer is as it was
 pub record Stays (out₀ out : List ℕ) : Type 0 where
   pub same : out ≡ out₀

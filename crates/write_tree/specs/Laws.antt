@@ -5,7 +5,7 @@ use Rattle.std.proofs.Math.Path.{ap}
 use mathlib.Core.List.{List, [], ◌∷◌, ◌++◌, map, flatten, append-nil}
 use native.Mathlib.Omega.{arith}
 use Rattle.std.proofs.lemmas.List.{length-map}
-use Rattle.std.proofs.lemmas.List.Edits.{sets, sets-eq}
+use Rattle.std.specs.Int.{w16, w32, to_le_bytes}
 use borrow.Author.Rules.{part_to_end}
 use borrow.Rule.Slice.PartMut.{put_mid}
 use Rattle.meaning.specs.Lists.{numbers}
@@ -13,7 +13,9 @@ use Rattle.meaning.specs.Paths.{Class, is_element}
 use Rattle.meaning.specs.Trees.{Node}
 use Rattle.meaning.specs.Records.{node_bytes, record_bytes, word_bytes, value_bytes, number_bytes}
 use Rattle.write_pattern.specs.declared.Drawing.{Drawing}
-use Rattle.write_pattern.specs.Sketch.{entry_at, Sized}
+use Rattle.write_bytes.specs.Wrote.{Wrote, wrote_more, wrote_is, wrote_front}
+use Rattle.write_pattern.specs.declared.Entry.{Entry}
+use Rattle.write_pattern.specs.Sketch.{dressed, no_entry, entry_at, Sized}
 use Rattle.write_pattern.specs.Entries.{numbers_more}
 use Rattle.write_tree.specs.Standing.{flatten_append}
 use Rattle.write_tree.specs.Front.{Front, front_none, front_more, front_length, front_same}
@@ -46,40 +48,45 @@ pub value_own : (element mark : Bool) (shift x : ℕ) → element ≡ false → 
 unfolding value_of
 value_own element mark shift x e f = rw (e, f)
 
--- eleven stores
 node_length : (n : Node) → length (node_bytes 5 n) ≡ 11
 unfolding node_bytes record_bytes word_bytes value_bytes number_bytes
 node_length n = refl
 
-pub node_stored : (out : List ℕ) (n : Node) → 11 ≤ length out → {a b c d e f : ℕ} → a ≡ n.parent % 256 → b ≡ n.parent / 256 % 256 → c ≡ n.value % 256
-    → d ≡ n.value / 256 % 256 → e ≡ n.value / 65536 % 256 → f ≡ n.value / 65536 / 256 % 256
-    → Front out (sets out 0 (11 ∷ 0 ∷ 5 ∷ 0 ∷ a ∷ b ∷ n.label ∷ c ∷ d ∷ e ∷ f ∷ [])) (node_bytes 5 n)
-unfolding node_bytes record_bytes word_bytes value_bytes number_bytes
-node_stored out n h {a} {b} {c} {d} {e} {f} pa pb pc pd pe pf =
-    let above : n.value / 65536 ≡ n.value / 256 / 256 = omega arith in
-    let third : e ≡ n.value / 256 / 256 % 256 = pe ∙ ap (λ (k : ℕ). k % 256) above in
-    let fourth : f ≡ n.value / 256 / 256 / 256 % 256 = pf ∙ ap (λ (k : ℕ). k / 256 % 256) above in
-    record {
-      fits = h;
-      is =
-          sets-eq (11 ∷ 0 ∷ 5 ∷ 0 ∷ a ∷ b ∷ n.label ∷ c ∷ d ∷ e ∷ f ∷ []) out 0 h
-          ∙ ap₂ (λ (p q : ℕ). (11 ∷ 0 ∷ 5 ∷ 0 ∷ p ∷ q ∷ n.label ∷ c ∷ d ∷ e ∷ f ∷ []) ++ drop 11 out) pa pb
-          ∙ ap₂ (λ (p q : ℕ). (11 ∷ 0 ∷ 5 ∷ 0 ∷ n.parent % 256 ∷ n.parent / 256 % 256 ∷ n.label ∷ p ∷ q ∷ e ∷ f ∷ []) ++ drop 11 out) pc pd
-          ∙ ap₂ (λ (p q : ℕ). (11 ∷ 0 ∷ 5 ∷ 0 ∷ n.parent % 256 ∷ n.parent / 256 % 256 ∷ n.label ∷ n.value % 256 ∷ n.value / 256 % 256 ∷ p ∷ q ∷ []) ++ drop 11 out) third fourth;
-    }
+-- the two numbers as the library writes their bytes
+parent_bytes : (n : ℕ) → to_le_bytes w16 (n % 65536) ≡ word_bytes n
+unfolding word_bytes
+parent_bytes n = ap₂ (λ (a b : ℕ). a ∷ b ∷ []) (omega arith) (omega arith)
+
+own_bytes : (n : ℕ) → to_le_bytes w32 (n % 4294967296) ≡ number_bytes 4 n
+unfolding number_bytes
+own_bytes n =
+    let a : n % 4294967296 % 256 ≡ n % 256 = omega arith in
+    let b : n % 4294967296 / 256 % 256 ≡ n / 256 % 256 = omega arith in
+    let c : n % 4294967296 / 65536 % 256 ≡ n / 256 / 256 % 256 = omega arith in
+    let d : n % 4294967296 / 16777216 % 256 ≡ n / 256 / 256 / 256 % 256 = omega arith in
+    cc
+
+-- four writings make the record
+pub node_stored : {o a b c d : List ℕ} {p q r s : ℕ} (n : Node) → Wrote o a 0 (11 ∷ 0 ∷ 5 ∷ 0 ∷ []) p → Wrote a b p (to_le_bytes w16 (n.parent % 65536)) q
+    → Wrote b c q (n.label ∷ []) r → Wrote c d r (to_le_bytes w32 (n.value % 4294967296)) s → Front o d (node_bytes 5 n)
+unfolding node_bytes record_bytes value_bytes word_bytes number_bytes
+node_stored {o} n w v u t =
+    let whole = wrote_more w (wrote_more (wrote_is (parent_bytes n.parent) v) (wrote_more u (wrote_is (own_bytes n.value) t))) in
+    record { fits = whole.room; is = (wrote_front whole).1 }
 
 -- one node of a copy
-pub node_written : (κ : ℕ → Class) (d : Drawing) (cut shift x : ℕ) {before after : List ℕ} {parent value : ℕ} {element : Bool} {above label : ℕ}
-    → above ≡ get_or d.parents x 0 → label ≡ get_or d.labels x 0 → element ≡ is_element (κ label)
-    → parent ≡ parent_of above cut shift x → value ≡ value_of element (get_or d.marks x false) shift x
-    → Front before after (node_bytes 5 (record { parent = parent; label = get_or d.labels x 0; value = value }))
+pub node_written : (κ : ℕ → Class) (d : Drawing) (cut shift x : ℕ) {before after : List ℕ} {e : Entry} {above label parent value : ℕ} {element : Bool}
+    → e ≡ get_or d.entries x no_entry → above ≡ e.parent → label ≡ e.label → element ≡ is_element (κ label)
+    → parent ≡ parent_of above cut shift x → value ≡ value_of element e.mark shift x
+    → Front before after (node_bytes 5 (record { parent = parent; label = e.label; value = value }))
     → Front before after (node_bytes 5 (node_from κ cut shift x (entry_at d x)))
-unfolding node_from entry_at
-node_written κ d cut shift x a l e p v f =
+unfolding node_from entry_at dressed
+node_written κ d cut shift x {e = e} a l m t p v f =
     front_same
-    (ap₂ (λ (q w : ℕ). node_bytes 5 (record { parent = q; label = get_or d.labels x 0; value = w }))
-    (p ∙ ap (λ (k : ℕ). parent_of k cut shift x) a)
-    (v ∙ ap (λ (b : Bool). value_of b (get_or d.marks x false) shift x) (e ∙ ap (λ (k : ℕ). is_element (κ k)) l)))
+    (ap₂ (λ (q w : ℕ). node_bytes 5 (record { parent = q; label = e.label; value = w }))
+    (p ∙ ap (λ (k : ℕ). parent_of k cut shift x) l)
+    (v ∙ ap (λ (b : Bool). value_of b e.mark shift x) (t ∙ ap (λ (k : ℕ). is_element (κ k)) m))
+    ∙ ap (λ (y : Entry). node_bytes 5 (record { parent = parent_of y.parent cut shift x; label = y.label; value = value_of (is_element (κ y.label)) y.mark shift x })) a)
     f
 
 -- the bytes of a copy

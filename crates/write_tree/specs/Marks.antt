@@ -1,4 +1,4 @@
--- The marks of a run of nodes, as the code gives them: none on the way to t, at t and below it as document 01 says.
+-- The marks of a run of nodes, as the code gives them: none on the way to t, at t and below it as the pattern is marked.
 use Prim.Native.Nat.{ℕ, suc, ◌+◌, ◌-◌, ◌≤◌, ◌<◌}
 use Rattle.std.specs.Prelude.{◌≡◌, Bool, ◌&&◌, ◌||◌, leb, eqb}
 use Rattle.std.proofs.Math.Path.{refl, sym, ap}

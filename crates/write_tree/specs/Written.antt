@@ -1,4 +1,4 @@
--- A node of a copy, and the bytes of a copy: document 01, "as a first copy, then as a second copy".
+-- A node of a copy, and the bytes of a copy: "as a first copy, then as a second copy".
 use Rattle.std.specs.Prelude.{ℕ, ◌+◌, ◌-◌, ◌*◌, ◌≤◌, ◌≡◌, Bool, cond, ltb, eqb, length, drop}
 use mathlib.Core.List.{List, ◌++◌, map, flatten}
 use Rattle.meaning.specs.Limits.{no_number}

@@ -1,4 +1,4 @@
-// The counterexample written into the answer buffer: document 01, "The counterexample that is written".
+// The counterexample written into the answer buffer: the pattern's nodes from root to u once, then all the others as a first and as a second copy.
 #![tactic(auto)]
 
 ghost use Rattle.std.specs.Prelude.{◌≡◌, ◌+◌, ◌-◌, ◌*◌, ◌/◌, ◌%◌, ◌<◌, ◌≤◌, length};
@@ -9,56 +9,35 @@ ghost use Rattle.write_tree.specs.Front.{Front};
 ghost use Rattle.write_tree.specs.Written.{parent_of, value_of, node_from, copy_bytes, Copying, TreeAtFront};
 
 use read_record::classes::is_element;
-use read_record::fields::{BYTE, wide};
 use read_record::limits::{NO_NUMBER, WIDE_BYTES};
-use write_pattern::{Drawing, draw_below, draw_trunk};
+use write_bytes::put;
+use write_pattern::{Drawing, Entry, draw_below, draw_trunk};
 
 // "length of the whole record (two bytes, little-endian), kind (two bytes), body"; 11 bytes a node record, kind 5
 const NODE_LENGTH: u8 = 11;
 
 const WIDE_KIND: u8 = 5;
 
-const WORD: usize = 65536;
+// How many values two bytes have, and four.
+const WORDS: usize = 65536;
 
-// "two bytes, little-endian"
-fn low(n: usize) -> u8
-    ensures { result ≡ n % 256 }
-{
-    (n % BYTE) as u8
-}
+const WIDE_WORDS: usize = 4294967296;
 
-fn high(n: usize) -> u8
-    ensures { result ≡ n / 256 % 256 }
-{
-    (n / BYTE % BYTE) as u8
-}
-
-// "parent (2), label (1)", value (4)
+// "parent (2), label (1)", value (4), the low byte first
 fn write_node(out: &mut [u8], parent: usize, label: u8, value: usize)
     requires { 11 ≤ length out.old }
     ensures { Front out.old out.new (node_bytes 5 (record { parent = parent; label = label; value = value })) }
 {
-    let parent_low = low(parent);
-    let parent_high = high(parent);
-    let value_low = low(value);
-    let value_high = high(value);
-    let above = value / WORD;
-    let above_low = low(above);
-    let above_high = high(above);
-    out[0] = NODE_LENGTH;
-    out[1] = 0;
-    out[2] = WIDE_KIND;
-    out[3] = 0;
-    out[4] = parent_low;
-    out[5] = parent_high;
-    out[6] = label;
-    out[7] = value_low;
-    out[8] = value_high;
-    out[9] = above_low;
-    out[10] = above_high;
+    let parent_at = put(out, 0, &[NODE_LENGTH, 0, WIDE_KIND, 0]);
+    let above = (parent % WORDS) as u16;
+    let label_at = put(out, parent_at, &above.to_le_bytes());
+    let value_at = put(out, label_at, &[label]);
+    let own = (value % WIDE_WORDS) as u32;
+    put(out, value_at, &own.to_le_bytes());
 }
 
 // What stands before the cut is there once; the others hang under their own copy's nodes.
+// Stays: a number where there is no parent, because the record has it so.
 fn parent_of(above: usize, cut: usize, shift: usize, x: usize) -> usize
     requires { (above < 256) × (shift ≤ 128) }
     ensures { result ≡ parent_of above cut shift x }
@@ -98,10 +77,13 @@ fn write_drawn(
     requires { Sized drawing × (x < 128) × (shift ≤ 128) × (11 ≤ length out.old) }
     ensures { Front out.old out.new (node_bytes 5 (node_from (class_by classes.now) cut shift x (entry_at drawing x))) }
 {
-    let above = wide(drawing.parents[x]);
-    let label = drawing.labels[x];
-    let mark = drawing.marks[x];
-    let element = is_element(classes, wide(label));
+    let Entry {
+        parent,
+        label,
+        mark,
+    } = drawing.entries[x];
+    let above = usize::from(parent);
+    let element = is_element(classes, usize::from(label));
     let parent = parent_of(above, cut, shift, x);
     write_node(out, parent, label, value_of(element, mark, shift, x));
 }
@@ -119,11 +101,9 @@ fn write_copy(
     requires { Copying drawing from to shift (length out.old) }
     ensures { Front out.old out.new (copy_bytes (class_by classes.now) drawing cut shift from (to - from)) }
 {
-    let mut x = from;
-    while x < to {
+    for x in from..to {
         let at = WIDE_BYTES * (x - from);
         write_drawn(&mut out[at..], drawing, classes, cut, shift, x);
-        x += 1;
     }
 }
 

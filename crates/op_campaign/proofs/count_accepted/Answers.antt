@@ -1,13 +1,12 @@
 use Rattle.op_tree_accepted.specs.BothAccepted.{counted_bodies}
 use Rattle.op_campaign.specs.Segments.{accepted_tree, accepted_keys, adds_keys}
-use borrow.Author.Rules.{rules}
 use Rattle.op_campaign.proofs.count_accepted.Goals as goal
 
 pub prepare-requires : goal.prepare-requires
-prepare-requires c = (search (accepted_tree), search rules)
+prepare-requires c = accepted_tree c.requires
 
 pub mark_keys-breaks-requires : goal.mark_keys-breaks-requires
-mark_keys-breaks-requires c = (search rules, counted_bodies c.requires.given c.record_at-part.ensures, accepted_keys c.requires, record { tops = search rules; hangs = search rules; sorts = search rules; memos = search rules })
+mark_keys-breaks-requires c = (c.prepare.ensures, counted_bodies c.requires.given c.record_at-part.ensures, accepted_keys c.requires)
 
 pub count_keys-requires : goal.count_keys-requires
 count_keys-requires c = (accepted_keys c.requires, c.mark_keys-breaks.ensures.long)

@@ -1,12 +1,14 @@
-use Rattle.op_decide.specs.Returns.{decide_short, decide_stops, decide_given, decide_size}
-use borrow.Author.Rules.{rules}
+use Rattle.std.proofs.Common.{rules}
+use Rattle.std.proofs.lemmas.Result.{err_from_is_err_and}
+use Rattle.op_decide.specs.Returns.{decide_short, decide_stops}
 use Rattle.op_decide.proofs.decide.Goals as goal
 
-pub returns-then-answer-lt-ANSWER_BYTES : goal.returns-then-answer-lt-ANSWER_BYTES
-returns-then-answer-lt-ANSWER_BYTES c = search (decide_short)
+pub returns-in_err-has_room : goal.returns-in_err-has_room
+returns-in_err-has_room c =
+    let p = err_from_is_err_and c.from_residual.result c.from_residual.ensures.1 in
+    rw (p.1, p.2) (decide_short _ _ _ _ c.in_err-has_room.ensures.0 c.in_err-has_room.ensures.1)
 
-pub returns-in-Refused : goal.returns-in-Refused
-returns-in-Refused c = search (decide_stops)
-
-pub decide_accepted-requires : goal.decide_accepted-requires
-decide_accepted-requires c = (search (decide_given), search (decide_size), search rules)
+pub returns-in_err-accepted : goal.returns-in_err-accepted
+returns-in_err-accepted c =
+    let p = err_from_is_err_and c.from_residual-in_err-accepted.result c.from_residual-in_err-accepted.ensures.1 in
+    rw (p.1, p.2) (decide_stops c.in_err-accepted.ensures _ (search rules))

@@ -4,7 +4,7 @@ use Rattle.op_decider.specs.Deciding.{may_search, body_reads, chain_few, may_dra
 use borrow.Author.Rules.{rules}
 use mathlib.Core.Path.{ap}
 use mathlib.Core.Bool.{not}
-use Rattle.op_decider.proofs.decide_accepted.Goals.{then-u-chain_end+else-not-steps_up, else-u-chain_end}
+use Rattle.op_decider.proofs.decide_accepted.Goals.{else-u-chain_end-via-then-u-chain_end+else-not-steps_up, else-u-chain_end-via-else-u-chain_end}
 use Rattle.op_decider.proofs.decide_accepted.Goals as goal
 
 pub find_steps-found-requires : goal.find_steps-found-requires
@@ -26,7 +26,7 @@ pub write_proof-requires : goal.write_proof-requires
 write_proof-requires c = may_write c.requires.0 c.body_at_front-body.ensures c.find_steps-found.ensures c.chain_end.ensures (search rules)
 
 pub returns : goal.returns
-returns c = decides_proof c.requires.0 c.body_at_front-body.ensures c.find_steps-found.ensures c.chain_end.ensures (elim c.if-u-chain_end.branch [
-  | then-u-chain_end+else-not-steps_up w ↦ ends_above c.requires.0 c.body_at_front-body.ensures c.find_steps-found.ensures c.chain_end.ensures c.requires.1 w.steps_up.ensures (ap not w.if-not-steps_up.false)
-  | else-u-chain_end w ↦ ends_at c.requires.0 c.body_at_front-body.ensures c.find_steps-found.ensures c.chain_end.ensures w.if-u-chain_end.false
+returns c = decides_proof c.requires.0 c.body_at_front-body.ensures c.find_steps-found.ensures c.chain_end.ensures (elim c.else-u-chain_end.branch [
+  | else-u-chain_end-via-then-u-chain_end+else-not-steps_up w ↦ ends_above c.requires.0 c.body_at_front-body.ensures c.find_steps-found.ensures c.chain_end.ensures c.requires.1 w.steps_up.ensures (ap not w.if-not-steps_up.false)
+  | else-u-chain_end-via-else-u-chain_end w ↦ ends_at c.requires.0 c.body_at_front-body.ensures c.find_steps-found.ensures c.chain_end.ensures w.if-u-chain_end.false
 ]) c.requires.2 c.write_proof.ensures

@@ -15,4 +15,4 @@ pub returns-then-u-c : goal.returns-then-u-c
 returns-then-u-c c = up_other _ _ _ _ (let e : c.args.second ≡ true = cc in ap not e) c.target-x.ensures c.if-x-eq0.false c.context-c.ensures c.if-u-c.true
 
 pub returns : goal.returns
-returns c = up_told _ _ _ _ (let e : c.args.second ≡ true = cc in ap not e) c.target-x.ensures c.if-x-eq0.false c.context-c.ensures (omega arith) c.wide-last.ensures.0 c.is_attribute.ensures
+returns c = up_told _ _ _ _ (let e : c.args.second ≡ true = cc in ap not e) c.target-x.ensures c.if-x-eq0.false c.context-c.ensures (omega arith) c.from-last.ensures c.is_attribute.ensures

@@ -1,12 +1,16 @@
+use Rattle.std.proofs.lemmas.Result.{err_from_is_err_and}
 use Rattle.op_lean.specs.Returns.{prove_short, prove_stops, found_accepted}
-use borrow.Author.Rules.{rules}
 use Rattle.op_lean.proofs.prove_dropped.Goals as goal
 
-pub returns-then-answer-lt-ANSWER_BYTES : goal.returns-then-answer-lt-ANSWER_BYTES
-returns-then-answer-lt-ANSWER_BYTES c = search (prove_short)
+pub returns-in_err-has_room : goal.returns-in_err-has_room
+returns-in_err-has_room c =
+    let p = err_from_is_err_and c.from_residual.result c.from_residual.ensures.1 in
+    rw (p.1, p.2) (prove_short _ _ _ _ c.in_err-has_room.ensures.0 c.in_err-has_room.ensures.1)
 
-pub returns-in-Refused : goal.returns-in-Refused
-returns-in-Refused c = search (prove_stops)
+pub returns-in_err-accepted : goal.returns-in_err-accepted
+returns-in_err-accepted c =
+    let p = err_from_is_err_and c.from_residual-in_err-accepted.result c.from_residual-in_err-accepted.ensures.1 in
+    rw (p.1, p.2) (prove_stops _ _ _ _ c.in_ok-has_room.ensures c.in_err-accepted.ensures)
 
 pub prove_accepted-requires : goal.prove_accepted-requires
-prove_accepted-requires c = (search (found_accepted), search rules)
+prove_accepted-requires c = (found_accepted c.in_ok-accepted.ensures.0 c.in_ok-accepted.ensures.1, c.in_ok-has_room.ensures)

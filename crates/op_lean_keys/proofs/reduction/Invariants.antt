@@ -8,6 +8,3 @@ use Rattle.op_lean_keys.proofs.reduction.Given as goal
 
 abbrev pub invariant-loop-n : goal.invariant-loop-n
 invariant-loop-n l = Turning l.part l.keys l.classes l.second l.stays l.n
-
-abbrev pub decreases-loop-n : goal.decreases-loop-n
-decreases-loop-n l = l.n

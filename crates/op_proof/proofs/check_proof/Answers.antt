@@ -1,18 +1,16 @@
-use Rattle.op_proof.specs.Returns.{proof_stops, proof_over, proof_given, proof_lines, proof_accepted}
-use borrow.Author.Rules.{rules}
+use Rattle.std.proofs.lemmas.Result.{err_from_is_err_and}
+use Rattle.op_proof.specs.Returns.{proof_stops, proof_over, proof_judged}
 use Rattle.op_proof.proofs.check_proof.Goals as goal
 
-pub returns-in-Refused : goal.returns-in-Refused
-returns-in-Refused c = search (proof_stops)
+pub returns-in_err-accepted : goal.returns-in_err-accepted
+returns-in_err-accepted c =
+    let p = err_from_is_err_and c.from_residual.result c.from_residual.ensures.1 in rw (p.1, p.2) (proof_stops c.in_err-accepted.ensures _)
 
 pub returns-then-proof-gt-PROOF_BYTES : goal.returns-then-proof-gt-PROOF_BYTES
-returns-then-proof-gt-PROOF_BYTES c = search (proof_over)
+returns-then-proof-gt-PROOF_BYTES c = proof_over c.in_ok-accepted.ensures.0 _ c.if-proof-gt-PROOF_BYTES.true
 
 pub check_lines-proved-requires : goal.check_lines-proved-requires
-check_lines-proved-requires c = search (proof_given)
+check_lines-proved-requires c = c.in_ok-accepted.ensures.0
 
-pub returns-in-Refused-third : goal.returns-in-Refused-third
-returns-in-Refused-third c = search (proof_lines)
-
-pub returns-in-Fine : goal.returns-in-Fine
-returns-in-Fine c = search (proof_accepted)
+pub returns : goal.returns
+returns c = proof_judged c.in_ok-accepted.ensures.0 _ c.if-proof-gt-PROOF_BYTES.false _ c.check_lines-proved.ensures c.of_input.ensures

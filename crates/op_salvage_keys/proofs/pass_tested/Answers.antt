@@ -1,9 +1,8 @@
 use Rattle.op_salvage_keys.specs.Broken.{tested_none, tested_one}
-use borrow.Author.Rules.{rules}
 use Rattle.op_salvage_keys.proofs.pass_tested.Goals as goal
 
-pub returns-in-Kept : goal.returns-in-Kept
-returns-in-Kept c = search (tested_none)
+pub returns-in-None : goal.returns-in-None
+returns-in-None c = search (tested_none)
 
-pub returns-in-Broken : goal.returns-in-Broken
-returns-in-Broken c = search (tested_one)
+pub returns-in-Some : goal.returns-in-Some
+returns-in-Some c = search (tested_one)

@@ -1,9 +1,7 @@
-use Prim.Native.Nat.{◌-◌, ◌≤◌}
-use mathlib.Core.Path.{◌≡◌, refl}
+use mathlib.Core.Path.{refl}
 use native.Mathlib.Omega.{arith}
 use borrow.Author.Rules.{rules}
-use lib.ListN.{length}
-use Rattle.op_tally.specs.Counting.{tally_of, KeysMore, keys_none, keys_next, keys_all}
+use Rattle.op_tally.specs.Counting.{keys_none, keys_next, keys_all}
 use Rattle.op_tally.proofs.count_keys.Goals as goal
 
 pub loop-n-init : goal.loop-n-init

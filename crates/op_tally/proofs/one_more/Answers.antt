@@ -1,9 +1,6 @@
-use Rattle.op_tally.specs.Counting.{bump_less, bump_full}
-use borrow.Author.Rules.{rules}
+use Rattle.op_tally.specs.Counting.{bump_is}
+use Rattle.std.proofs.Common.{◌∙◌, arith}
 use Rattle.op_tally.proofs.one_more.Goals as goal
 
-pub returns-then-n-lt-MOST : goal.returns-then-n-lt-MOST
-returns-then-n-lt-MOST c = bump_less _ (search rules)
-
 pub returns : goal.returns
-returns c = bump_full _ (search rules)
+returns c = c.saturating_add.ensures ∙ bump_is c.args.n (omega arith)

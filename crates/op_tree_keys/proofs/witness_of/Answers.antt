@@ -1,5 +1,4 @@
 use Rattle.op_tree_keys.specs.ProfileKeys.{found_hanging, found_targets, found_witness}
-use borrow.Author.Rules.{rules}
 use Rattle.op_tree_keys.proofs.witness_of.Goals as goal
 
 pub witness-requires : goal.witness-requires

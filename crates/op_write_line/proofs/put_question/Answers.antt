@@ -1,9 +1,8 @@
 use Rattle.op_write_line.specs.Writing.{first_low, question_head, labels_stand, question_shape, line_room, line_put}
-use borrow.Author.Rules.{rules}
 use Rattle.op_write_line.proofs.put_question.Goals as goal
 
-pub overflow_sub-before : goal.overflow_sub-before
-overflow_sub-before c = first_low c.requires.0 c.first_entry-first.ensures
+pub overflow_sub-accepted : goal.overflow_sub-accepted
+overflow_sub-accepted c = first_low c.requires.0 c.first_entry-first.ensures
 
 pub slice_bounds-put_line-count : goal.slice_bounds-put_line-count
 slice_bounds-put_line-count c = question_head c.requires.0

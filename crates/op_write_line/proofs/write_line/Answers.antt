@@ -1,15 +1,17 @@
-use Rattle.op_write_line.specs.Writing.{write_small, write_stops, write_asked, write_filled}
-use borrow.Author.Rules.{rules}
+use Rattle.std.proofs.Common.{rules}
+use Rattle.std.proofs.lemmas.Result.{err_from_is_err_and}
+use Rattle.op_write_line.specs.Writing.{write_small, write_stops, write_filled}
 use Rattle.op_write_line.proofs.write_line.Goals as goal
 
-pub returns-then-answer-lt-ANSWER_BYTES : goal.returns-then-answer-lt-ANSWER_BYTES
-returns-then-answer-lt-ANSWER_BYTES c = search (write_small)
+pub returns-in_err-has_room : goal.returns-in_err-has_room
+returns-in_err-has_room c =
+    let p = err_from_is_err_and c.from_residual.result c.from_residual.ensures.1 in
+    rw (p.1, p.2) (write_small _ _ _ _ c.in_err-has_room.ensures.0 c.in_err-has_room.ensures.1)
 
-pub returns-in-Refused : goal.returns-in-Refused
-returns-in-Refused c = search (write_stops)
-
-pub put_question-used-requires : goal.put_question-used-requires
-put_question-used-requires c = (search (write_asked), search rules)
+pub returns-in_err-accepted : goal.returns-in_err-accepted
+returns-in_err-accepted c =
+    let p = err_from_is_err_and c.from_residual-in_err-accepted.result c.from_residual-in_err-accepted.ensures.1 in
+    rw (p.1, p.2) (write_stops c.in_err-accepted.ensures _ (search rules))
 
 pub returns : goal.returns
-returns c = search (write_filled)
+returns c = write_filled c.in_ok-accepted.ensures.0 (search rules) c.put_question.ensures

@@ -1,6 +1,5 @@
-use Prim.Native.Nat.{ℕ, ◌<◌, ◌+◌}
 use native.Mathlib.Omega.{arith}
-use lib.ListN.{length, length-take, length-drop}
+use lib.ListN.{length-take, length-drop}
 use borrow.Author.Rules.{rules}
 use Rattle.path_words.specs.Search.{empty_word, empty_none, any_word, any_out, any_spent, any_more, label_out, label_none, label_more}
 use Rattle.path_words.proofs.+search.Goals as goal
@@ -8,8 +7,8 @@ use Rattle.path_words.proofs.+search.Goals as goal
 pub returns-then-run-eq0 : goal.returns-then-run-eq0
 returns-then-run-eq0 t c = search empty_word
 
-pub returns-then-path-eq0 : goal.returns-then-path-eq0
-returns-then-path-eq0 t c = search empty_none
+pub returns-else-run-eq0 : goal.returns-else-run-eq0
+returns-else-run-eq0 t c = search empty_none
 
 pub search-ended-requires : goal.search-ended-requires
 search-ended-requires t c = (simp (length-take, length-drop) (omega arith), tt)

@@ -1,7 +1,5 @@
-use borrow.Author.Rules.{rules}
-use lib.ListN.{length}
-use Rattle.theory_campaign.specs.Listings.{names_few}
-use Rattle.read_names.specs.Names.{Read, read_start, read_more, read_all, read_few, next_shorter}
+use Rattle.std.specs.Prelude.{length}
+use Rattle.read_names.specs.Names.{Read}
 use Rattle.read_names.proofs.name_count.Given as goal
 
 abbrev pub invariant-loop-rest : goal.invariant-loop-rest

@@ -1,5 +1,4 @@
 use Rattle.rule_joins.specs.Joins.{joined_same}
-use borrow.Author.Rules.{rules}
 use Rattle.rule_joins.proofs.join_is.Goals as goal
 
 pub returns : goal.returns

@@ -1,16 +1,16 @@
 use Rattle.rule_joins.specs.Joins.{overlap_left, overlap_right, overlap_one, overlap_none}
-use borrow.Author.Rules.{rules}
+use Rattle.rule_joins.proofs.overlap.Goals.{then-x-eq0-via-then-x-eq0, then-x-eq0-via-else-x-eq0+then-y-eq0}
 use Rattle.rule_joins.proofs.overlap.Goals as goal
 
--- `rule_joins::overlap` meets its contract. Assumes nothing.
 pub returns-then-x-eq0 : goal.returns-then-x-eq0
-returns-then-x-eq0 c = search overlap_left
-
-pub returns-then-y-eq0 : goal.returns-then-y-eq0
-returns-then-y-eq0 c = search overlap_right
+returns-then-x-eq0 c =
+    elim c.then-x-eq0.branch [
+      | then-x-eq0-via-then-x-eq0 w ↦ search overlap_left
+      | then-x-eq0-via-else-x-eq0+then-y-eq0 w ↦ search overlap_right
+    ]
 
 pub returns-then-doubled : goal.returns-then-doubled
 returns-then-doubled c = search overlap_one
 
-pub returns : goal.returns
-returns c = search overlap_none
+pub returns-else-doubled : goal.returns-else-doubled
+returns-else-doubled c = search overlap_none

@@ -1,30 +1,15 @@
-use Prim.Native.Nat.{◌-◌}
-use mathlib.Core.Path.{refl}
-use Rattle.step_rows.specs.Drawn.{Drawing, drawing_start, drawing_holds, drawing_writes, drawing_more, drawing_end}
-use native.Mathlib.Omega.{arith}
-use borrow.Author.Rules.{rules}
+use Rattle.std.proofs.Common.{rules}
+use Rattle.step_rows.specs.Drawn.{drawing_start, drawing_writes, drawing_more, drawing_end}
 use Rattle.step_rows.proofs.draw.Goals as goal
 
-pub count-n-requires : goal.count-n-requires
-count-n-requires c = c.requires.is_key
-
-pub paths-rest-requires : goal.paths-rest-requires
-paths-rest-requires c = c.requires.is_key
-
 pub loop-j-init : goal.loop-j-init
-loop-j-init c = drawing_start _ c.requires c.count-n.ensures.0 c.paths-rest.ensures refl
-
-pub lead_path-path-requires : goal.lead_path-path-requires
-lead_path-path-requires c = search drawing_holds
+loop-j-init c = let q = c.into_iter-j-iterator.ensures.into_iter_gives in drawing_start c.requires (cc (c.enumerate-j-items.ensures.source, c.paths.ensures, c.new.ensures)) (cc (c.enumerate-j-items.ensures.count)) (search rules)
 
 pub write_row-requires : goal.write_row-requires
-write_row-requires c = search drawing_writes
-
-pub after_path-next-requires : goal.after_path-next-requires
-after_path-next-requires c = search drawing_holds
+write_row-requires c = drawing_writes c.loop-j.invariant c.in-Some.ensures.steps.0 c.in-Some.ensures.steps.1
 
 pub loop-j-preserved : goal.loop-j-preserved
-loop-j-preserved c = drawing_more c.loop-j.invariant (search rules) c.lead_path-path.ensures c.write_row.ensures c.after_path-next.ensures
+loop-j-preserved c = let h = c.in-Some.ensures.steps in drawing_more c.loop-j.invariant h.0 h.1 c.write_row.ensures h.2
 
-pub returns : goal.returns
-returns c = search drawing_end
+pub returns-clause-draws : goal.returns-clause-draws
+returns-clause-draws c = let h = c.in-None.ensures.steps in drawing_end c.loop-j.invariant h.0.0

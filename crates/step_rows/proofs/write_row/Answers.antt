@@ -1,7 +1,6 @@
 use mathlib.Core.Path.{refl}
 use Rattle.step_rows.specs.Drawn.{parts_short, room_context, room_target, room_path, write_all}
 use native.Mathlib.Omega.{arith}
-use borrow.Author.Rules.{rules}
 use Rattle.step_rows.proofs.write_row.Goals as goal
 
 pub overflow_add-rows : goal.overflow_add-rows

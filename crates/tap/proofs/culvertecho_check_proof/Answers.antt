@@ -2,10 +2,8 @@ use Rattle.std.proofs.Common.{arith}
 use Rattle.tap.specs.Told.{proof_short, proof_told}
 use Rattle.tap.proofs.culvertecho_check_proof.Goals as goal
 
--- src/lib.rt:49:9
 pub returns-then-detail-lt-DETAIL_BYTES : goal.returns-then-detail-lt-DETAIL_BYTES
-returns-then-detail-lt-DETAIL_BYTES c = proof_short _ _ _ _ (omega arith)
+returns-then-detail-lt-DETAIL_BYTES c = rw c.number.ensures (proof_short _ _ _ _ (omega arith))
 
--- src/lib.rt:39:1
 pub returns : goal.returns
 returns c = proof_told _ _ _ (omega arith) _ c.check_proof-found.result c.check_proof-found.ensures c.of_checking-told.ensures c.put_details.ensures

@@ -1,5 +1,4 @@
 use Rattle.tree_contexts.specs.Turned.{least_symbol}
-use borrow.Author.Rules.{rules}
 use Rattle.tree_contexts.proofs.by_symbol.Goals as goal
 
 pub returns-then-symbol-eq-ANY_PATH : goal.returns-then-symbol-eq-ANY_PATH

@@ -1,35 +1,39 @@
-use native.Mathlib.Omega.{arith}
-use Rattle.tree_table.specs.FileTable.{file_table, class_by}
+use Rattle.std.proofs.Common.{ℕ, List, ◌≡◌, arith, subst}
+use Rattle.meaning.specs.Paths.{Class}
+use Rattle.meaning.specs.Trees.{Table}
+use Rattle.tree_rows.specs.Families.{FamiliesFrom}
 use Rattle.tree_table.specs.LinkedTree.{parents_smaller}
-use Rattle.tree_table.specs.Seek.{left}
-use Rattle.tree_groups.specs.Leaders.{Seeking, seeking_start, seeking_next, family_met, family_own}
 use Rattle.tree_rows.specs.Chain.{next_falls}
-use Rattle.tree_equal.specs.Marks.{Clean}
+use Rattle.tree_groups.specs.Leaders.{seeking_start, seeking_next, family_met, family_own}
 use Rattle.tree_groups.proofs.leader.Goals as goal
 
-pub at-y-requires : goal.at-y-requires
-at-y-requires c = let f = c.requires.linked_tree.0.tree.few in let h = c.requires.families_from.2 in omega arith
+later : {κ : ℕ → Class} {t : Table} (family : List ℕ) (i j : ℕ) → i ≡ j → FamiliesFrom κ t family i → FamiliesFrom κ t family j
+later family i j e c = subst (FamiliesFrom _ _ family) e c
 
 pub loop-y-init : goal.loop-y-init
-loop-y-init c = (seeking_start _ _ _ _ _ c.requires.linked_tree.1 c.requires.sorted.0 c.requires.sorted.1 _ _ c.requires.families_from.1 c.requires.families_from.2 c.at-y.ensures.0, c.requires.families_from.3)
-
-pub alike-requires : goal.alike-requires
-alike-requires c = let i = c.loop-y.invariant in record { linked_tree = c.requires.linked_tree; x_bound = (c.requires.families_from.2, i.0.inside, (i.0.member (let n = c.loop-y-test.true in omega arith)).0, c.requires.families_from.0, i.1) }
-
-pub family_of-requires : goal.family_of-requires
-family_of-requires c = let f = c.requires.linked_tree.0.tree.few in let h = c.loop-y.invariant.0.inside in omega arith
+loop-y-init c =
+    let p = c.requires.x_bound in
+    (seeking_start _ _ _ _ _ c.requires.weighed c.requires.sorted.0 c.requires.sorted.1 _ _ p.0 p.1 c.from-y.ensures, p.3)
 
 pub returns-then-alike : goal.returns-then-alike
-returns-then-alike c = (family_met _ _ (parents_smaller c.requires.linked_tree.0.tree) _ c.args.bucket.now _ c.requires.families_from.2 c.requires.families_from.0 _ _ _ (let n = c.loop-y-test.true in omega arith) c.loop-y.invariant.0 c.alike.ensures.0 c.if-alike.true c.family_of.ensures.0, c.alike.ensures.1)
-
-pub at-y-requires-in-loop-y : goal.at-y-requires-in-loop-y
-at-y-requires-in-loop-y c = let f = c.requires.linked_tree.0.tree.few in let h = c.loop-y.invariant.0.inside in omega arith
+returns-then-alike c = (
+  family_met _ _ (parents_smaller c.requires.nodes.linked.tree) _ c.args.bucket.now _ c.requires.x_bound.1 (later _ _ _ c.requires.x_bound.2 c.requires.nodes.families) _ _ _ (omega arith) c.loop-y.invariant.0
+      c.alike.ensures.0 c.if-alike.true c.family_of.ensures.0,
+  c.alike.ensures.1,
+)
 
 pub loop-y-smaller : goal.loop-y-smaller
-loop-y-smaller c = next_falls _ _ _ c.requires.sorted.1 _ _ (let n = c.loop-y-test.true in omega arith) c.loop-y.invariant.0.inside c.at-y-in-loop-y.ensures.0
+loop-y-smaller c = next_falls _ _ _ c.requires.sorted.1 _ _ (omega arith) c.loop-y.invariant.0.inside c.from-y-in-loop-y.ensures
 
 pub loop-y-preserved : goal.loop-y-preserved
-loop-y-preserved c = (seeking_next _ _ _ _ _ c.requires.linked_tree.1 c.requires.sorted.0 c.requires.sorted.1 _ _ _ _ c.requires.families_from.2 (let n = c.loop-y-test.true in omega arith) c.loop-y.invariant.0 c.alike.ensures.0 c.if-alike.false c.at-y-in-loop-y.ensures.0, c.alike.ensures.1)
+loop-y-preserved c = (
+  seeking_next _ _ _ _ _ c.requires.weighed c.requires.sorted.0 c.requires.sorted.1 _ _ _ _ c.requires.x_bound.1 (omega arith) c.loop-y.invariant.0
+      c.alike.ensures.0 c.if-alike.false c.from-y-in-loop-y.ensures,
+  c.alike.ensures.1,
+)
 
 pub returns : goal.returns
-returns c = (family_own _ _ (parents_smaller c.requires.linked_tree.0.tree) _ c.args.bucket.now _ c.requires.families_from.2 c.requires.families_from.0 _ (let n = c.loop-y-test.false in omega arith) c.loop-y.invariant.0, c.loop-y.invariant.1)
+returns c = (
+  family_own _ _ (parents_smaller c.requires.nodes.linked.tree) _ c.args.bucket.now _ c.requires.x_bound.1 (later _ _ _ c.requires.x_bound.2 c.requires.nodes.families) _ (omega arith) c.loop-y.invariant.0,
+  c.loop-y.invariant.1,
+)

@@ -1,9 +1,7 @@
-use Rattle.tree_weights.specs.Weights.{mix, spread, product_fits}
-use mathlib.Core.Path.{refl}
-use native.Mathlib.Omega.{arith}
-use borrow.Author.Rules.{rules}
+use Rattle.std.proofs.Common.{refl}
+use Rattle.tree_weights.specs.Weights.{mix, spread}
 use Rattle.tree_weights.proofs.mixed.Goals as goal
 
 pub returns : goal.returns
 unfolding mix spread
-returns c = (refl, omega arith)
+returns c = refl

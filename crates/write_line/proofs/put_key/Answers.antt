@@ -1,5 +1,4 @@
 use Rattle.write_line.specs.LineParts.{key_wrote}
-use borrow.Author.Rules.{rules}
 use Rattle.write_line.proofs.put_key.Goals as goal
 
 pub returns : goal.returns

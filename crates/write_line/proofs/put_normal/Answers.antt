@@ -1,15 +1,10 @@
-use mathlib.Core.Logic.{⊎_elim}
-use Rattle.write_line.specs.Normals.{Normed, normed_none, normed_skip, normed_more, normed_all, normed_is}
-use Prim.Native.Nat.{◌-◌}
-use lib.ListN.{length}
-use native.Mathlib.Omega.{arith}
-use mathlib.Core.Path.{ap}
-use mathlib.Core.Bool.{not}
-use Rattle.write_line.proofs.put_normal.Goals.{else-not-doubled, then-not-doubled}
+use Rattle.std.proofs.Common.{ap, not, arith}
+use Rattle.write_line.specs.Normals.{normed_none, normed_skip, normed_more, normed_all, normed_is}
+use Rattle.write_line.proofs.put_normal.Goals.{then-not-doubled, else-not-doubled}
 use Rattle.write_line.proofs.put_normal.Goals as goal
 
 pub loop-i-init : goal.loop-i-init
-loop-i-init c = search (normed_none)
+loop-i-init c = normed_none _ _ _ c.requires
 
 pub loop-i-preserved : goal.loop-i-preserved
 loop-i-preserved c = elim c.if-not-doubled.branch [
@@ -18,4 +13,4 @@ loop-i-preserved c = elim c.if-not-doubled.branch [
 ]
 
 pub returns : goal.returns
-returns c = normed_all c.loop-i.invariant c.loop-i-test.false
+returns c = normed_all c.loop-i.invariant (omega arith)

@@ -1,5 +1,4 @@
 use Rattle.write_bytes.specs.Wrote.{wrote_byte}
-use borrow.Author.Rules.{rules}
 use Rattle.write_line.proofs.put_number.Goals as goal
 
 pub returns : goal.returns

@@ -3,7 +3,6 @@ use Rattle.theory_pattern.specs.RowParts.{norm_length}
 use Rattle.write_bytes.specs.Wrote.{part_length}
 use Rattle.write_line.specs.LineParts.{line_wrote}
 use mathlib.Core.Path.{sym}
-use borrow.Author.Rules.{rules}
 use Rattle.write_line.proofs.write_line.Goals as goal
 
 pub slice_bounds-put_key-end : goal.slice_bounds-put_key-end

@@ -1,8 +1,6 @@
 use native.Mathlib.Omega.{arith}
-use lib.ListN.{length-set}
 use Rattle.write_listing.specs.Writing.{wrote_digit, wrote_digits, digits_room}
 use Rattle.write_listing.specs.Decimal.{length_one, length_more}
-use Prim.Native.Nat.{ℕ, ◌<◌}
 use Rattle.write_listing.proofs.+put_decimal.Goals as goal
 
 pub bounds-out-at : goal.bounds-out-at

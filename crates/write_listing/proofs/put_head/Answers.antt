@@ -1,8 +1,6 @@
-use mathlib.Core.Path.{refl}
-use native.Mathlib.Omega.{arith}
+use Rattle.std.proofs.Common.{refl, arith}
 use Rattle.write_listing.specs.Writing.{head_wrote}
 use Rattle.tree_table.specs.FileTable.{class_by}
-use borrow.Author.Rules.{rules}
 use Rattle.write_listing.proofs.put_head.Goals as goal
 
 pub returns : goal.returns

@@ -1,5 +1,4 @@
 use Rattle.write_listing.specs.Writing.{line_first, line_node}
-use borrow.Author.Rules.{rules}
 use Rattle.write_listing.proofs.put_line.Goals as goal
 
 pub returns-then-i-eq0 : goal.returns-then-i-eq0

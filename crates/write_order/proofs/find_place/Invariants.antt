@@ -1,10 +1,7 @@
-use native.Mathlib.Omega.{arith}
-use Rattle.read_record.specs.KeyPaths.{step_holds}
-use Rattle.write_order.specs.Places.{Seeking, seek_start, place_before, place_end, seek_next}
+use Rattle.meaning.specs.Text.{put_path}
+use Rattle.read_record.specs.BodyParts.{paths_of}
+use Rattle.write_set.specs.Places.{Seeking}
 use Rattle.write_order.proofs.find_place.Given as goal
 
-abbrev pub invariant-loop-left : goal.invariant-loop-left
-invariant-loop-left l = Seeking l.count l.paths l.path l.left l.rest
-
-abbrev pub decreases-loop-left : goal.decreases-loop-left
-decreases-loop-left l = l.left
+abbrev pub invariant-loop-other : goal.invariant-loop-other
+invariant-loop-other l = Seeking (put_path l.path) (paths_of l.count l.paths) l.passed l.other-iterator

@@ -1,6 +1,5 @@
 use native.Mathlib.Omega.{arith}
 use Rattle.write_pattern.specs.DrawnParts.{room_of, room_less, cut_within, cut_before, on_few, below_drawn}
-use borrow.Author.Rules.{rules}
 use Rattle.write_pattern.proofs.draw_below.Goals as goal
 
 pub overflow_sub-to_u : goal.overflow_sub-to_u

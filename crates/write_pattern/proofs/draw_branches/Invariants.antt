@@ -1,14 +1,7 @@
-use Prim.Native.Nat.{◌-◌}
-use mathlib.Core.Path.{refl, ap}
-use native.Mathlib.Omega.{arith}
-use lib.ListN.{length}
 use Rattle.meaning.specs.Records.{key_in}
 use Rattle.read_record.specs.Classes.{class_by}
-use Rattle.write_pattern.specs.Runs.{Branching, hung, branching_start, branching_room, branching_next, branching_end}
+use Rattle.write_pattern.specs.Runs.{Branching}
 use Rattle.write_pattern.proofs.draw_branches.Given as goal
 
 abbrev pub invariant-loop-i : goal.invariant-loop-i
 invariant-loop-i l = Branching (class_by l.classes) l.whole l.initial.d l.d (key_in l.asked).paths l.i
-
-abbrev pub decreases-loop-i : goal.decreases-loop-i
-decreases-loop-i l = l.n - l.i

@@ -1,8 +1,4 @@
-use Prim.Native.Nat.{◌-◌}
-use native.Mathlib.Omega.{arith}
-use lib.ListN.{length}
-use Rattle.read_record.specs.Classes.{class_by}
-use Rattle.write_pattern.specs.Runs.{Running, running_start, running_room, running_next, running_end}
+use Rattle.write_pattern.specs.Runs.{running_start, running_room, running_next, running_end}
 use Rattle.write_pattern.proofs.draw_run.Goals as goal
 
 pub loop-i-init : goal.loop-i-init

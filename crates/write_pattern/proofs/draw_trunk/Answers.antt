@@ -1,6 +1,5 @@
 use native.Mathlib.Omega.{arith}
 use Rattle.write_pattern.specs.DrawnParts.{room_of, cut_within, cut_before, context_few, up_few, trunk_drawn}
-use borrow.Author.Rules.{rules}
 use Rattle.write_pattern.proofs.draw_trunk.Goals as goal
 
 pub draw_run-q-requires : goal.draw_run-q-requires

@@ -1,7 +1,6 @@
-use native.Mathlib.Omega.{arith}
+use Rattle.std.proofs.Common.{arith}
 use Rattle.write_pattern.specs.Entries.{entered}
-use borrow.Author.Rules.{rules}
 use Rattle.write_pattern.proofs.put.Goals as goal
 
 pub returns : goal.returns
-returns c = entered c.args.drawing _ _ _ _ c.requires.sized (let h = c.requires.room in omega arith)
+returns c = entered c.args.drawing c.args.entry c.args.above c.requires.sized (let h = c.requires.room in omega arith)

@@ -1,7 +1,6 @@
 use Rattle.write_proof.specs.Asks.{asked_room, asked_wrote}
 use mathlib.Core.Path.{refl}
 use native.Mathlib.Omega.{arith}
-use borrow.Author.Rules.{rules}
 use Rattle.write_proof.proofs.put_asked.Goals as goal
 
 pub put-target_at-requires : goal.put-target_at-requires

@@ -4,7 +4,6 @@ use Rattle.write_bytes.specs.Wrote.{wrote_more, part_length}
 use lib.ListN.{length}
 use mathlib.Core.Path.{sym, ap, ◌∙◌}
 use native.Mathlib.Omega.{arith}
-use borrow.Author.Rules.{rules}
 use Rattle.write_proof.proofs.write_first.Goals as goal
 
 pub put-next-requires : goal.put-next-requires

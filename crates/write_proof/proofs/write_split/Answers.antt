@@ -1,7 +1,6 @@
 use native.Mathlib.Omega.{arith}
 use lib.ListN.{length-take}
 use Rattle.write_proof.specs.Whole.{split_fits, split_wrote}
-use borrow.Author.Rules.{rules}
 use Rattle.write_proof.proofs.write_split.Goals as goal
 
 pub slice_bounds-write_of_key-end : goal.slice_bounds-write_of_key-end

@@ -2,7 +2,6 @@ use Rattle.write_proof.specs.Whole.{step_wrote}
 use Rattle.write_proof.specs.Asks.{on_row_lem}
 use Rattle.write_bytes.specs.Wrote.{part_length}
 use mathlib.Core.Path.{sym}
-use borrow.Author.Rules.{rules}
 use Rattle.write_proof.proofs.write_step.Goals as goal
 
 pub slice_bounds-write_on-end : goal.slice_bounds-write_on-end

@@ -1,7 +1,6 @@
-use Prim.Native.Nat.{◌-◌, ◌≤◌}
 use native.Mathlib.Omega.{arith}
 use borrow.Author.Rules.{rules}
-use Rattle.write_report.specs.Lines.{KeysWritten, keys_none, keys_more, keys_room, keys_all}
+use Rattle.write_report.specs.Lines.{keys_none, keys_more, keys_room, keys_all}
 use Rattle.write_report.proofs.put_keys.Goals as goal
 
 pub loop-n-init : goal.loop-n-init

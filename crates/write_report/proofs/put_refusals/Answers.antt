@@ -1,7 +1,6 @@
-use Prim.Native.Nat.{◌-◌, ◌≤◌}
 use native.Mathlib.Omega.{arith}
 use borrow.Author.Rules.{rules}
-use Rattle.write_report.specs.Lines.{RefusalsTo, refusals_none, refusals_more, refusals_room, refusals_all}
+use Rattle.write_report.specs.Lines.{refusals_none, refusals_more, refusals_room, refusals_all}
 use Rattle.write_report.proofs.put_refusals.Goals as goal
 
 pub loop-number-init : goal.loop-number-init

@@ -1,7 +1,7 @@
 use Rattle.op_tally.specs.Counting.{tally_of}
 use mathlib.Core.Path.{refl}
 use native.Mathlib.Omega.{arith}
-use Rattle.write_report.specs.Lines.{keys_behind, refusals_behind, report_written}
+use Rattle.write_report.specs.Lines.{field_as, keys_behind, refusals_behind, report_written}
 use borrow.Author.Rules.{rules}
 use Rattle.write_report.proofs.put_report.Goals as goal
 
@@ -15,4 +15,4 @@ pub put_field-requires : goal.put_field-requires
 put_field-requires c = (search rules, let r = refusals_behind c.put_keys-after_keys.ensures c.put_refusals-after_refusals.ensures (search rules) (search rules) in let w = c.put-after_word.ensures.after in let k = c.put-after_word.ensures.kept in omega arith)
 
 pub returns : goal.returns
-returns c = report_written (tally_of c.args.t) c.put_keys-after_keys.ensures c.put_refusals-after_refusals.ensures refl c.put-after_word.ensures c.put_field.ensures
+returns c = report_written (tally_of c.args.t) c.put_keys-after_keys.ensures c.put_refusals-after_refusals.ensures refl c.put-after_word.ensures (field_as _ c.from.ensures c.put_field.ensures)

@@ -1,10 +1,12 @@
-use native.Mathlib.Omega.{arith}
-use Rattle.write_salvage.specs.Blocks.{in_before, in_from}
-use borrow.Author.Rules.{rules}
+use Rattle.std.proofs.Common.{arith}
+use Rattle.std.proofs.lemmas.Bool.Decides.{nat_tests}
+use Rattle.write_salvage.specs.Blocks.{in_block}
 use Rattle.write_salvage.proofs.in_block.Goals as goal
 
-pub returns-then-line-start : goal.returns-then-line-start
-returns-then-line-start c = in_before _ _ c.if-line-start.true
+pub returns-then-start-line : goal.returns-then-start-line
+unfolding in_block
+returns-then-start-line c = grind (arith, nat_tests)
 
-pub returns : goal.returns
-returns c = in_from _ _ (omega arith)
+pub returns-else-start-line : goal.returns-else-start-line
+unfolding in_block
+returns-else-start-line c = grind (arith, nat_tests)

@@ -1,5 +1,4 @@
 use Rattle.write_salvage.specs.Blocks.{reason_kept, reason_in, reason_other}
-use borrow.Author.Rules.{rules}
 use Rattle.write_salvage.proofs.pass_reason.Goals as goal
 
 pub returns-then-reason-eq0 : goal.returns-then-reason-eq0

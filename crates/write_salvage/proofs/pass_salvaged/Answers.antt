@@ -1,5 +1,4 @@
 use Rattle.write_salvage.specs.Blocks.{first_in, first_other}
-use borrow.Author.Rules.{rules}
 use Rattle.write_salvage.proofs.pass_salvaged.Goals as goal
 
 pub returns-then-in_block : goal.returns-then-in_block

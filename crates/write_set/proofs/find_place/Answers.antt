@@ -1,25 +1,36 @@
-use native.Mathlib.Omega.{arith}
-use Rattle.write_set.specs.Places.{Seeking, seek_start, place_before, place_held, place_end, seek_next}
-use Rattle.read_record.specs.KeyPaths.{step_holds}
+use Rattle.std.proofs.Common.{refl, subst, sym, ◌∙◌, arith}
+use Rattle.read_record.specs.BodyParts.{paths_of}
+use Rattle.read_record.specs.Library.{same_list}
+use Rattle.theory_derive.specs.Sets.{insert}
+use Rattle.write_set.specs.Encoded.{bytes_more}
+use Rattle.write_set.specs.Places.{Seeking, seek_start, seek_within, place_before, place_held, place_end, seek_next}
 use Rattle.write_set.proofs.find_place.Goals as goal
 
-pub loop-left-init : goal.loop-left-init
-loop-left-init c = seek_start _ _ _ c.requires
-
-pub lead_path-other-requires : goal.lead_path-other-requires
-lead_path-other-requires c = step_holds _ _ c.loop-left-test.true c.loop-left.invariant.ends
+pub loop-other-init : goal.loop-other-init
+loop-other-init c =
+    subst (Seeking (insert c.args.path.now) (paths_of c.args.count c.args.paths.now) 0) (sym (c.into_iter-other-iterator.ensures.into_iter_gives ∙ c.new-other-items.ensures))
+    (seek_start (insert c.args.path.now) _)
 
 pub returns-then-before : goal.returns-then-before
-returns-then-before c = place_before c.loop-left.invariant c.loop-left-test.true c.lead_path-other.ensures c.before-in-loop-left.ensures c.if-before.true
+returns-then-before c =
+    place_before c.args.path.now c.args.count c.args.paths.now c.requires (subst (Seeking (insert c.args.path.now) (paths_of c.args.count c.args.paths.now) c.loop-other.passed) c.in-Some.ensures.steps c.loop-other.invariant)
+    c.before-in-loop-other.ensures c.if-before.true
 
-pub returns-then-same_bytes : goal.returns-then-same_bytes
-returns-then-same_bytes c = place_held c.loop-left.invariant c.loop-left-test.true c.lead_path-other.ensures c.before-in-loop-left.ensures c.if-before.false c.same_bytes.ensures c.if-same_bytes.true
+pub returns-then-eq : goal.returns-then-eq
+returns-then-eq c =
+    place_held c.args.path.now (subst (Seeking (insert c.args.path.now) (paths_of c.args.count c.args.paths.now) c.loop-other.passed) c.in-Some.ensures.steps c.loop-other.invariant)
+    c.before-in-loop-other.ensures (c.eq.ensures ∙ same_list _ _) c.if-before.false c.if-eq.true
 
-pub after_path-next-requires : goal.after_path-next-requires
-after_path-next-requires c = step_holds _ _ c.loop-left-test.true c.loop-left.invariant.ends
+pub overflow_add-passed-in-loop-other : goal.overflow_add-passed-in-loop-other
+overflow_add-passed-in-loop-other c =
+    let w = seek_within c.args.count c.args.paths.now c.requires (subst (Seeking (insert c.args.path.now) (paths_of c.args.count c.args.paths.now) c.loop-other.passed) c.in-Some.ensures.steps c.loop-other.invariant) in
+    let m = bytes_more c.in-Some.other.now c.next.new.self in
+    record { fits = omega arith }
 
-pub loop-left-preserved : goal.loop-left-preserved
-loop-left-preserved c = seek_next c.loop-left.invariant c.loop-left-test.true c.lead_path-other.ensures c.before-in-loop-left.ensures c.if-before.false c.same_bytes.ensures c.if-same_bytes.false c.after_path-next.ensures
+pub loop-other-preserved : goal.loop-other-preserved
+loop-other-preserved c =
+    seek_next c.args.path.now (subst (Seeking (insert c.args.path.now) (paths_of c.args.count c.args.paths.now) c.loop-other.passed) c.in-Some.ensures.steps c.loop-other.invariant)
+    c.before-in-loop-other.ensures (c.eq.ensures ∙ same_list _ _) c.if-before.false c.if-eq.false refl
 
 pub returns : goal.returns
-returns c = place_end c.loop-left.invariant c.loop-left-test.false
+returns c = place_end c.args.path.now c.args.count c.args.paths.now c.requires (subst (Seeking (insert c.args.path.now) (paths_of c.args.count c.args.paths.now) c.loop-other.passed) c.in-None.ensures.steps.0 c.loop-other.invariant)

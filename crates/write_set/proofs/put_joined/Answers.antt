@@ -1,6 +1,5 @@
 use Rattle.write_set.specs.Fronts.{joined_wrote}
 use mathlib.Core.Path.{refl}
-use borrow.Author.Rules.{rules}
 use Rattle.write_set.proofs.put_joined.Goals as goal
 
 pub returns : goal.returns

@@ -1,7 +1,6 @@
 use Rattle.meaning.specs.Records.{key_in}
 use Rattle.read_entry.specs.Labels.{labels_at}
 use Rattle.write_text.specs.Lines.{line_open, context_room, target_open, target_room, set_open, paths_room, line_close, line_wrote}
-use borrow.Author.Rules.{rules}
 use Rattle.write_text.proofs.put_line.Goals as goal
 
 pub put-context_at-requires : goal.put-context_at-requires

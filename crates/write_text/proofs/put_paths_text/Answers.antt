@@ -1,9 +1,5 @@
-use Prim.Native.Nat.{◌-◌}
 use native.Mathlib.Omega.{arith}
-use borrow.Author.Rules.{rules}
-use Rattle.meaning.specs.Records.{key_in}
-use Rattle.read_entry.specs.Labels.{labels_at}
-use Rattle.write_text.specs.Symbols.{Set, set_none, set_first, set_start, comma_room, set_room, set_next, set_done}
+use Rattle.write_text.specs.Symbols.{set_none, set_first, set_start, comma_room, set_room, set_next, set_done}
 use Rattle.write_text.proofs.put_paths_text.Goals as goal
 
 pub returns-then-paths-eq0 : goal.returns-then-paths-eq0

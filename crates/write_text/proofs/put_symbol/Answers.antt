@@ -1,21 +1,22 @@
+use Rattle.std.proofs.Common.{rules}
+use Rattle.write_text.specs.Names.{names}
 use Rattle.write_text.specs.Symbols.{any_room, any_wrote, text_room, text_wrote, declared_room, declared_wrote}
-use borrow.Author.Rules.{rules}
 use Rattle.write_text.proofs.put_symbol.Goals as goal
 
 pub put-requires : goal.put-requires
-put-requires c = search (any_room)
+put-requires c = any_room (names c.args.labels.now) _ _ _ c.in-0.is c.requires.1
 
-pub returns-then-s-eq0 : goal.returns-then-s-eq0
-returns-then-s-eq0 c = search (any_wrote)
+pub returns-in-0 : goal.returns-in-0
+returns-in-0 c = any_wrote (names c.args.labels.now) _ c.in-0.is c.put.ensures
 
-pub put-requires-then-s-eq-TEXT : goal.put-requires-then-s-eq-TEXT
-put-requires-then-s-eq-TEXT c = search (text_room)
+pub put-requires-in-1 : goal.put-requires-in-1
+put-requires-in-1 c = text_room (names c.args.labels.now) _ _ _ c.in-1.is c.requires.1
 
-pub returns-then-s-eq-TEXT : goal.returns-then-s-eq-TEXT
-returns-then-s-eq-TEXT c = search (text_wrote)
+pub returns-in-1 : goal.returns-in-1
+returns-in-1 c = text_wrote (names c.args.labels.now) _ c.in-1.is c.put-in-1.ensures
 
 pub put_declared-requires : goal.put_declared-requires
-put_declared-requires c = (c.requires.0, search (declared_room))
+put_declared-requires c = (c.requires.0, search (rules, declared_room))
 
-pub returns : goal.returns
-returns c = search (declared_wrote)
+pub returns-in_default : goal.returns-in_default
+returns-in_default c = search (rules, declared_wrote)

@@ -1,5 +1,4 @@
 use Rattle.write_tree.specs.Laws.{parent_root, parent_trunk, parent_copy}
-use borrow.Author.Rules.{rules}
 use Rattle.write_tree.proofs.parent_of.Goals as goal
 
 -- `write_tree::parent_of` meets its contract. One law of specs/ for each step.

@@ -1,5 +1,4 @@
 use Rattle.write_tree.specs.Laws.{value_element, value_twin, value_own}
-use borrow.Author.Rules.{rules}
 use Rattle.write_tree.proofs.value_of.Goals as goal
 
 -- `write_tree::value_of` meets its contract. One law of specs/ for each step.

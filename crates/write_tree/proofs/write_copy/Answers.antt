@@ -1,9 +1,5 @@
-use Prim.Native.Nat.{◌-◌}
 use mathlib.Core.Path.{refl}
 use native.Mathlib.Omega.{arith}
-use Rattle.read_record.specs.Classes.{class_by}
-use Rattle.write_tree.specs.Front.{front_length}
-use Rattle.write_tree.specs.Written.{Copied}
 use Rattle.write_tree.specs.Laws.{copied_start, copied_room, copied_rest, copied_next, copied_end}
 use Rattle.write_tree.proofs.write_copy.Goals as goal
 
@@ -24,9 +20,6 @@ slice_bounds-write_drawn-start c = let r = copied_room c.requires c.loop-x.invar
 
 pub write_drawn-requires : goal.write_drawn-requires
 write_drawn-requires c = (c.requires.sized, let w = c.requires.within in omega arith, c.requires.small, copied_rest c.requires c.loop-x.invariant c.loop-x-test.true)
-
-pub overflow_add-x : goal.overflow_add-x
-overflow_add-x c = let w = c.requires.within in omega arith
 
 pub loop-x-preserved : goal.loop-x-preserved
 loop-x-preserved c = copied_next _ c.loop-x.invariant c.loop-x-test.true refl c.write_drawn.ensures

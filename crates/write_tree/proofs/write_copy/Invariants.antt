@@ -1,14 +1,6 @@
-use Prim.Native.Nat.{◌-◌}
-use mathlib.Core.Path.{refl}
-use native.Mathlib.Omega.{arith}
 use Rattle.read_record.specs.Classes.{class_by}
-use Rattle.write_tree.specs.Front.{front_length}
 use Rattle.write_tree.specs.Written.{Copied}
-use Rattle.write_tree.specs.Laws.{copied_start, copied_room, copied_rest, copied_next, copied_end}
 use Rattle.write_tree.proofs.write_copy.Given as goal
 
 abbrev pub invariant-loop-x : goal.invariant-loop-x
 invariant-loop-x l = Copied (class_by l.classes) l.drawing l.cut l.shift l.from l.to l.initial.out l.out l.x
-
-abbrev pub decreases-loop-x : goal.decreases-loop-x
-decreases-loop-x l = l.to - l.x

@@ -1,5 +1,4 @@
 use Rattle.write_tree.specs.Tree.{cut_within, first_room, second_room, tree_written}
-use borrow.Author.Rules.{rules}
 use Rattle.write_tree.proofs.write_tree.Goals as goal
 
 pub overflow_sub-gap : goal.overflow_sub-gap

@@ -1,14 +1,6 @@
-use Prim.Native.Nat.{◌-◌}
-use native.Mathlib.Omega.{arith}
-use borrow.Author.Rules.{rules}
 use Rattle.tree_table.specs.FileTable.{file_table, class_by}
-use Rattle.tree_search.specs.Start.{Lent}
-use Rattle.op_tree_keys.specs.ProfileKeys.{good_body}
-use Rattle.op_campaign.specs.Marks.{Marked, marked_none, marked_more, marked_all}
+use Rattle.op_campaign.specs.Marks.{Marked}
 use Rattle.op_campaign.proofs.marks.mark_keys.Given as goal
 
 abbrev pub invariant-loop-n : goal.invariant-loop-n
-invariant-loop-n l = Marked (class_by l.classes) (file_table l.tree) l.part l.n l.breaks × Lent l.top l.hung l.sorted l.memo
-
-abbrev pub decreases-loop-n : goal.decreases-loop-n
-decreases-loop-n l = l.keys - l.n
+invariant-loop-n l = Marked (class_by l.classes) (file_table l.tree) l.part l.n l.breaks

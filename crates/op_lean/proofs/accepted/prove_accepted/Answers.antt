@@ -27,11 +27,11 @@ put_lean-chosen-requires c = accepted_cut c.requires.0 c.record_at-part.ensures 
 pub slice_bounds-decide_accepted-end : goal.slice_bounds-decide_accepted-end
 slice_bounds-decide_accepted-end c = sym (part_length c.put_lean-chosen.ensures.wrote)
 
-pub slice_bounds-decide_accepted-end-2 : goal.slice_bounds-decide_accepted-end-2
-slice_bounds-decide_accepted-end-2 c = sym (length-take-le _ _ (proof_within c.requires.0 c.args.answer.now c.requires.1 c.record_at-part.ensures c.reduction-stays.ensures _ c.is_dropped.ensures (let e : c.is_dropped.result ≡ true = cc in ap not e) c.record_at-rest.ensures c.front_length-size.ensures))
+pub slice_bounds-asked-end : goal.slice_bounds-asked-end
+slice_bounds-asked-end c = sym (length-take-le _ _ (proof_within c.requires.0 c.args.answer.now c.requires.1 c.record_at-part.ensures c.reduction-stays.ensures _ c.is_dropped.ensures (let e : c.is_dropped.result ≡ true = cc in ap not e) c.record_at-rest.ensures c.front_length.ensures))
 
 pub decide_accepted-requires : goal.decide_accepted-requires
-decide_accepted-requires c = (proof_given c.requires.0 c.args.answer.now c.requires.1 c.record_at-part.ensures c.reduction-stays.ensures _ c.is_dropped.ensures (let e : c.is_dropped.result ≡ true = cc in ap not e) c.record_at-rest.ensures c.front_length-size.ensures (bytes_from _ (λ i h. (c.shared_slice_known-1.given i).fits)) c.put_lean-chosen.ensures, c.requires.0.long, c.requires.1)
+decide_accepted-requires c = (proof_given c.requires.0 c.args.answer.now c.requires.1 c.record_at-part.ensures c.reduction-stays.ensures _ c.is_dropped.ensures (let e : c.is_dropped.result ≡ true = cc in ap not e) c.record_at-rest.ensures c.front_length.ensures (bytes_from _ (λ i h. (c.shared_slice_known-1.given i).fits)) c.put_lean-chosen.ensures, c.requires.0.long, c.requires.1)
 
 pub returns : goal.returns
-returns c = proof_told c.requires.0 c.args.answer.now c.requires.1 c.record_at-part.ensures c.reduction-stays.ensures _ c.is_dropped.ensures (let e : c.is_dropped.result ≡ true = cc in ap not e) c.record_at-rest.ensures c.front_length-size.ensures (bytes_from _ (λ i h. (c.shared_slice_known-1.given i).fits)) c.put_lean-chosen.ensures c.decide_accepted.result _ c.decide_accepted.ensures c.proof_of.ensures
+returns c = proof_told c.requires.0 c.args.answer.now c.requires.1 c.record_at-part.ensures c.reduction-stays.ensures _ c.is_dropped.ensures (let e : c.is_dropped.result ≡ true = cc in ap not e) c.record_at-rest.ensures c.front_length.ensures (bytes_from _ (λ i h. (c.shared_slice_known-1.given i).fits)) c.put_lean-chosen.ensures c.decide_accepted.result _ c.decide_accepted.ensures c.proof_of.ensures

@@ -1,18 +1,11 @@
-use borrow.Author.Rules.{rules}
-use Rattle.op_salvage.specs.Salvaged.{tree_stops, tree_fits, tree_long, tree_room, tree_salvages}
+use Rattle.std.proofs.lemmas.Result.{err_from_is_err_and}
+use Rattle.op_salvage.specs.Salvaged.{tree_stops, tree_salvages}
 use Rattle.op_salvage.proofs.salvage.salvage_tree.Goals as goal
 
-pub slice_bounds-out-end : goal.slice_bounds-out-end
-slice_bounds-out-end c = tree_fits _ _ _ _ _ _ _ _ _ c.salvage_into-passed.ensures c.of_input-outcome.ensures c.requires.0 (search)
+pub returns-in_err-passed : goal.returns-in_err-passed
+returns-in_err-passed c =
+    let p = err_from_is_err_and c.from_residual.result c.from_residual.ensures.1 in
+    rw (p.1, p.2) (tree_stops _ _ _ _ _ _ c.salvage_into-read.ensures c.in_err-passed.ensures _ c.requires.1)
 
-pub slice_bounds-put-end : goal.slice_bounds-put-end
-slice_bounds-put-end c = tree_long _ _ _ _ _ _ _ _ _ c.salvage_into-passed.ensures c.of_input-outcome.ensures c.requires.0 (search)
-
-pub put-requires : goal.put-requires
-put-requires c = tree_room _ _ _ _ _ _ _ _ _ c.salvage_into-passed.ensures c.of_input-outcome.ensures c.requires.0 (search) _ c.requires.1
-
-pub returns-in-Refused : goal.returns-in-Refused
-returns-in-Refused c = search (tree_stops)
-
-pub returns-in-Fine : goal.returns-in-Fine
-returns-in-Fine c = search (tree_salvages)
+pub returns : goal.returns
+returns c = tree_salvages _ _ _ _ _ _ c.salvage_into-read.ensures c.in_ok-passed.ensures c.requires.1 c.put.ensures

@@ -1,6 +1,6 @@
-use Rattle.std.proofs.Common.{sym, ◌∙◌}
+use Rattle.std.proofs.Common.{Ok, refl}
 use Rattle.program_advice.specs.Advice.{decided_follows}
 use Rattle.program_advice.proofs.advice.follows.Goals as goal
 
-pub returns : goal.returns
-returns c = λ e. decided_follows _ _ _ _ c.decide.result c.decide.ensures (sym c.says_implied.ensures ∙ e)
+pub returns-in-Ok-Implied : goal.returns-in-Ok-Implied
+returns-in-Ok-Implied c = λ e. decided_follows _ _ _ _ (Ok c.in-Ok-Implied.field-0) c.in-Ok-Implied.ensures (rw c.in-Ok-Implied.field-0-is refl)

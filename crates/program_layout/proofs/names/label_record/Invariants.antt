@@ -1,8 +1,8 @@
-use lib.ListN.{length}
+use Rattle.std.proofs.Common.{length}
 use Rattle.program_layout.proofs.names.label_record.Given as goal
 
-abbrev pub invariant-loop-rest : goal.invariant-loop-rest
-invariant-loop-rest l = Unit {0}
+abbrev pub invariant-loop-record : goal.invariant-loop-record
+invariant-loop-record l = Unit {0}
 
-abbrev pub decreases-loop-rest : goal.decreases-loop-rest
-decreases-loop-rest l = length l.rest
+abbrev pub decreases-loop-record : goal.decreases-loop-record
+decreases-loop-record l = length l.rest

@@ -1,10 +1,7 @@
-use Rattle.meaning.specs.Refusals.{first_of}
+use Rattle.std.proofs.Common.{ap, arith, not}
 use Rattle.theory_records.specs.HeadTests.{head_many, head_torn, head_other, head_more}
 use Rattle.theory_records.specs.Heads.{passed}
-use native.Mathlib.Omega.{arith}
-use borrow.Author.Rules.{rules}
-use mathlib.Core.Path.{ap}
-use mathlib.Core.Bool.{not}
+use Rattle.meaning.specs.Refusals.{first_of}
 use Rattle.read_entry.proofs.keys.judge_head.Goals as goal
 
 pub returns-then-too_many : goal.returns-then-too_many

@@ -1,28 +1,30 @@
+use Rattle.std.proofs.lemmas.Result.{err_from_is_err_and}
+use Rattle.read_judged.specs.Answers.{some_number}
 use Rattle.read_entry.specs.Keys.{line_tests_by, head_stops, head_goes, head_room, line_whole, line_number, line_room}
 use native.Mathlib.Omega.{arith}
 use mathlib.Core.Path.{refl, ◌∙◌}
-use borrow.Author.Rules.{rules}
 use Rattle.read_entry.proofs.keys.judge_line.Goals as goal
 
-pub returns-then-head-ne0 : goal.returns-then-head-ne0
+pub returns-in_err-judge_head : goal.returns-in_err-judge_head
 unfolding line_tests_by
-returns-then-head-ne0 c = head_stops 4 256 _ _ _ c.judge_head-head.ensures c.if-head-ne0.true
+returns-in_err-judge_head c =
+    let p = err_from_is_err_and c.from_residual.result c.from_residual.ensures.1 in rw (p.1, p.2) (head_stops 4 256 _ _ _ c.in_err-judge_head.ensures (some_number _))
 
 pub word-end-requires : goal.word-end-requires
-word-end-requires c = omega (arith, head_room 4 256 _ _ c.judge_head-head.ensures c.if-head-ne0.false)
+word-end-requires c = omega (arith, head_room 4 256 _ _ c.in_ok-judge_head.ensures refl)
 
-pub slice_bounds-key_refusal-count : goal.slice_bounds-key_refusal-count
-slice_bounds-key_refusal-count c = omega (arith, head_room 4 256 _ _ c.judge_head-head.ensures c.if-head-ne0.false, c.word-end.ensures.0, line_room 4 256 _ _ c.judge_head-head.ensures c.if-head-ne0.false c.word-end.ensures.0 refl)
+pub slice_bounds-new-count : goal.slice_bounds-new-count
+slice_bounds-new-count c = omega (arith, head_room 4 256 _ _ c.in_ok-judge_head.ensures refl, c.word-end.ensures.0, line_room 4 256 _ _ c.in_ok-judge_head.ensures refl c.word-end.ensures.0 refl)
 
-pub slice_bounds-key_refusal-start : goal.slice_bounds-key_refusal-start
-slice_bounds-key_refusal-start c = omega (arith, head_room 4 256 _ _ c.judge_head-head.ensures c.if-head-ne0.false, c.word-end.ensures.0, line_room 4 256 _ _ c.judge_head-head.ensures c.if-head-ne0.false c.word-end.ensures.0 refl)
+pub slice_bounds-new-start : goal.slice_bounds-new-start
+slice_bounds-new-start c = omega (arith, head_room 4 256 _ _ c.in_ok-judge_head.ensures refl, c.word-end.ensures.0, line_room 4 256 _ _ c.in_ok-judge_head.ensures refl c.word-end.ensures.0 refl)
 
-pub slice_bounds-key_refusal-end : goal.slice_bounds-key_refusal-end
-slice_bounds-key_refusal-end c = omega (arith, head_room 4 256 _ _ c.judge_head-head.ensures c.if-head-ne0.false, c.word-end.ensures.0)
+pub slice_bounds-new-end : goal.slice_bounds-new-end
+slice_bounds-new-end c = omega (arith, head_room 4 256 _ _ c.in_ok-judge_head.ensures refl, c.word-end.ensures.0)
 
-pub key_refusal-requires : goal.key_refusal-requires
-key_refusal-requires c = line_whole 4 256 _ _ c.judge_head-head.ensures c.if-head-ne0.false c.word-end.ensures.0 refl
+pub new-key-requires : goal.new-key-requires
+new-key-requires c = line_whole 4 256 _ _ c.in_ok-judge_head.ensures refl c.word-end.ensures.0 refl
 
 pub returns : goal.returns
 unfolding line_tests_by
-returns c = line_number _ _ c.word-end.ensures.0 c.key_refusal.ensures ∙ head_goes 4 256 _ _ _ c.judge_head-head.ensures c.if-head-ne0.false
+returns c = line_number _ _ c.word-end.ensures.0 (rw c.new-key.ensures at c.key_refusal.ensures) ∙ head_goes 4 256 _ _ _ c.in_ok-judge_head.ensures refl

@@ -1,13 +1,17 @@
-use Rattle.read_key.specs.Order.{before_shorter, before_longer, before_lower}
-use borrow.Author.Rules.{rules}
+use Rattle.std.proofs.Common.{◌≡◌, ◌∙◌, arith}
+use Rattle.std.proofs.lemmas.Bool.Decides.{nat_tests}
+use Rattle.meaning.specs.Lists.{lower, before}
+use Rattle.read_record.specs.Library.{lower_list}
 use Rattle.read_key.proofs.order.before.Goals as goal
 
--- `read_key::order::before` meets its contract. One law of specs/ for each return.
 pub returns-then-p-q : goal.returns-then-p-q
-returns-then-p-q c = before_shorter _ _ (search rules)
+unfolding before
+returns-then-p-q c = grind (arith, nat_tests)
 
-pub returns-then-q-p : goal.returns-then-q-p
-returns-then-q-p c = before_longer _ _ (search rules)
+pub returns-then-p-q-2 : goal.returns-then-p-q-2
+unfolding before
+returns-then-p-q-2 c = let e : c.lt.result ≡ lower c.args.p.now c.args.q.now = c.lt.ensures ∙ lower_list _ _ (omega arith) in grind (arith, nat_tests)
 
-pub returns : goal.returns
-returns c = before_lower _ _ (search rules) (search rules) c.lower.ensures
+pub returns-else-p-q-2 : goal.returns-else-p-q-2
+unfolding before
+returns-else-p-q-2 c = grind (arith, nat_tests)

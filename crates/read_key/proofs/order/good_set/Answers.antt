@@ -1,12 +1,12 @@
-use Rattle.read_key.specs.Order.{set_none, set_many, set_order}
-use borrow.Author.Rules.{rules}
+use Rattle.std.proofs.Common.{arith}
+use Rattle.std.proofs.lemmas.Bool.Decides.{nat_tests}
+use Rattle.meaning.specs.Refusals.{good_set}
 use Rattle.read_key.proofs.order.good_set.Goals as goal
 
-pub returns-then-n-lt1 : goal.returns-then-n-lt1
-returns-then-n-lt1 c = set_none _ _ c.count-n.ensures.0 (search rules)
+pub returns-then-n-most : goal.returns-then-n-most
+unfolding good_set
+returns-then-n-most c = grind (arith, nat_tests)
 
-pub returns-then-most-n : goal.returns-then-most-n
-returns-then-most-n c = set_many _ _ c.count-n.ensures.0 (search rules) (search rules)
-
-pub returns : goal.returns
-returns c = set_order _ _ c.count-n.ensures.0 (search rules) (search rules) c.in_order.ensures
+pub returns-else-n-most : goal.returns-else-n-most
+unfolding good_set
+returns-else-n-most c = grind (arith, nat_tests)

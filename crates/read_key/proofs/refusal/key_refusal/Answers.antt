@@ -1,5 +1,4 @@
 use Rattle.read_key.specs.Refusing.{refuses_four, refuses_five, refuses_six, refuses_none}
-use borrow.Author.Rules.{rules}
 use mathlib.Core.Path.{ap}
 use mathlib.Core.Bool.{not}
 use Rattle.read_key.proofs.refusal.key_refusal.Goals as goal

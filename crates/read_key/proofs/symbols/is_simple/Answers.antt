@@ -1,20 +1,10 @@
-use borrow.Author.Rules.{rules}
-use native.Mathlib.Omega.{arith}
-use Prim.Native.Nat.{◌-◌}
-use lib.ListN.{length}
+use Rattle.std.proofs.Common.{rules, tests}
+use Rattle.std.proofs.lemmas.Iterator.{YieldsList-from_slice}
 use Rattle.meaning.specs.Paths.{simple}
-use Rattle.read_record.specs.Scans.{Scan, scan_end}
-use Rattle.read_key.specs.Symbols.{not_any, simple_start, simple_next, simple_stop}
+use Rattle.read_record.specs.Library.{every_by}
+use Rattle.read_key.specs.Symbols.{not_any}
 use Rattle.read_key.proofs.symbols.is_simple.Goals as goal
 
-pub loop-i-init : goal.loop-i-init
-loop-i-init c = simple_start _
-
-pub returns-then-p-i-eq-ANY_PATH : goal.returns-then-p-i-eq-ANY_PATH
-returns-then-p-i-eq-ANY_PATH c = simple_stop c.loop-i.invariant (search rules) (search rules)
-
-pub loop-i-preserved : goal.loop-i-preserved
-loop-i-preserved c = simple_next c.loop-i.invariant (search rules) (search rules)
-
 pub returns : goal.returns
-returns c = scan_end c.loop-i.invariant c.loop-i-test.false
+unfolding simple
+returns c = every_by not_any _ c.all.ensures.ran (YieldsList-from_slice _ cc) (λ x b q k. search (rules, tests))

@@ -1,5 +1,4 @@
 use Rattle.read_key.specs.Validity.{both_behind}
-use borrow.Author.Rules.{rules}
 use Rattle.read_key.proofs.validity.both_valid.Goals as goal
 
 pub returns : goal.returns

@@ -1,13 +1,12 @@
+use Rattle.std.proofs.Common.{◌∙◌, arith}
 use Rattle.read_key.specs.Validity.{behind_empty, behind_inner, behind_not}
-use borrow.Author.Rules.{rules}
 use Rattle.read_key.proofs.validity.valid_behind.Goals as goal
 
--- `read_key::validity::valid_behind` meets its contract. One law of specs/ for each return.
-pub returns-then-p-eq0 : goal.returns-then-p-eq0
-returns-then-p-eq0 c = behind_empty _ _ _ _ (search rules)
+pub returns-in-empty : goal.returns-in-empty
+returns-in-empty c = behind_empty _ _ _ _ (omega arith)
 
 pub returns-then-front_inner : goal.returns-then-front_inner
-returns-then-front_inner c = behind_inner _ _ _ _ c.if-p-eq0.false c.if-front_inner.true c.is_valid.ensures
+returns-then-front_inner c = behind_inner _ _ _ _ (omega arith) c.if-front_inner.true c.is_valid.ensures
 
-pub returns : goal.returns
-returns c = behind_not _ _ _ _ c.if-p-eq0.false c.if-front_inner.false
+pub returns-else-front_inner : goal.returns-else-front_inner
+returns-else-front_inner c = c.if-front_inner.false ∙ behind_not _ _ _ _ (omega arith) c.if-front_inner.false

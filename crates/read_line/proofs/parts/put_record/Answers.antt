@@ -1,6 +1,5 @@
-use mathlib.Core.Path.{refl}
+use Rattle.std.proofs.Common.{refl}
 use Rattle.read_line.specs.Told.{record_wrote}
-use borrow.Author.Rules.{rules}
 use Rattle.read_line.proofs.parts.put_record.Goals as goal
 
 pub returns : goal.returns

@@ -1,6 +1,5 @@
 use Rattle.read_record.specs.Bodies.{path_fits, after_part}
 use native.Mathlib.Omega.{arith}
-use borrow.Author.Rules.{rules}
 use Rattle.read_record.proofs.bodies.after_path.Goals as goal
 
 -- `read_record::bodies::after_path` meets its contract. One law of specs/ for each return.
@@ -14,4 +13,4 @@ pub slice_bounds-result-start : goal.slice_bounds-result-start
 slice_bounds-result-start c = omega (arith, path_fits _ c.requires)
 
 pub returns : goal.returns
-returns c = after_part _ c.requires c.wide-end.ensures.0
+returns c = after_part _ c.requires c.from-end.ensures

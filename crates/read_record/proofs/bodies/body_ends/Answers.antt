@@ -1,28 +1,28 @@
+use Rattle.std.proofs.Common.{◌∙◌, arith}
+use borrow.Author.Tests.{lt-leb}
 use Rattle.read_record.specs.Bodies.{ends_label, ends_key, ends_node, ends_wide, ends_line_short, ends_line, ends_edition, ends_unknown}
-use borrow.Author.Rules.{rules}
 use Rattle.read_record.proofs.bodies.body_ends.Goals as goal
 
--- `read_record::bodies::body_ends` meets its contract. One law of specs/ for each return.
-pub returns-then-kind-eq-LABEL_KIND : goal.returns-then-kind-eq-LABEL_KIND
-returns-then-kind-eq-LABEL_KIND c = ends_label _ _ (search rules)
+pub returns-in-1 : goal.returns-in-1
+returns-in-1 c = ends_label _ _ c.in-1.is
 
-pub returns-then-kind-eq-KEY_KIND : goal.returns-then-kind-eq-KEY_KIND
-returns-then-kind-eq-KEY_KIND c = ends_key _ _ (search rules) c.key_shape.ensures
+pub returns-in-2 : goal.returns-in-2
+returns-in-2 c = ends_key _ _ c.in-2.is c.key_shape.ensures
 
-pub returns-then-kind-eq-NODE_KIND : goal.returns-then-kind-eq-NODE_KIND
-returns-then-kind-eq-NODE_KIND c = ends_node _ _ (search rules)
+pub returns-in-3 : goal.returns-in-3
+returns-in-3 c = ends_node _ _ c.in-3.is
 
-pub returns-then-kind-eq-WIDE_KIND : goal.returns-then-kind-eq-WIDE_KIND
-returns-then-kind-eq-WIDE_KIND c = ends_wide _ _ (search rules)
+pub returns-in-5 : goal.returns-in-5
+returns-in-5 c = ends_wide _ _ c.in-5.is
 
-pub returns-then-body-lt-LINE_FIELDS : goal.returns-then-body-lt-LINE_FIELDS
-returns-then-body-lt-LINE_FIELDS c = ends_line_short _ _ (search rules) (search rules)
+pub returns-then-body-ge-LINE_FIELDS : goal.returns-then-body-ge-LINE_FIELDS
+returns-then-body-ge-LINE_FIELDS c = ends_line _ _ c.in-4.is c.if-body-ge-LINE_FIELDS.true c.key_shape-then-body-ge-LINE_FIELDS.ensures
 
-pub returns-then-kind-eq-LINE_KIND : goal.returns-then-kind-eq-LINE_KIND
-returns-then-kind-eq-LINE_KIND c = ends_line _ _ (search rules) (search rules) c.key_shape-then-kind-eq-LINE_KIND.ensures
+pub returns-else-body-ge-LINE_FIELDS : goal.returns-else-body-ge-LINE_FIELDS
+returns-else-body-ge-LINE_FIELDS c = lt-leb 5 _ c.if-body-ge-LINE_FIELDS.false ∙ ends_line_short _ _ c.in-4.is c.if-body-ge-LINE_FIELDS.false
 
-pub returns-then-kind-eq-EDITION_KIND : goal.returns-then-kind-eq-EDITION_KIND
-returns-then-kind-eq-EDITION_KIND c = ends_edition _ _ (search rules)
+pub returns-in-6 : goal.returns-in-6
+returns-in-6 c = ends_edition _ _ c.in-6.is
 
-pub returns : goal.returns
-returns c = ends_unknown _ _ (search rules) (search rules) (search rules) (search rules) (search rules) (search rules)
+pub returns-in_default : goal.returns-in_default
+returns-in_default c = ends_unknown _ _ (omega arith) (omega arith) (omega arith) (omega arith) (omega arith) (omega arith)

@@ -7,4 +7,4 @@ pub returns-then-l-eq0 : goal.returns-then-l-eq0
 returns-then-l-eq0 c = holds_empty _ (search rules)
 
 pub returns : goal.returns
-returns c = holds_length _ (search rules) c.wide.ensures.0
+returns c = holds_length _ (search rules) c.from.ensures

@@ -1,5 +1,4 @@
 use mathlib.Core.Path.{sym, ◌∙◌}
-use borrow.Author.Tests.{not-false}
 use Rattle.read_record.specs.Bodies.{key_context, key_target, key_set, set_empty, set_counted}
 use borrow.Author.Rules.{rules}
 use mathlib.Core.Path.{ap}
@@ -22,4 +21,4 @@ pub returns-then-set-eq0 : goal.returns-then-set-eq0
 returns-then-set-eq0 c = set_empty _ (search rules) ∙ key_set _ (sym c.holds_path.ensures ∙ c.if-not-holds_path.false) c.after_path-behind.ensures (sym c.holds_path-2.ensures ∙ c.if-not-holds_path-2.false) c.after_path-set.ensures
 
 pub returns : goal.returns
-returns c = c.paths_end.ensures ∙ set_counted _ c.if-set-eq0.false c.wide.ensures.0 ∙ key_set _ (sym c.holds_path.ensures ∙ c.if-not-holds_path.false) c.after_path-behind.ensures (sym c.holds_path-2.ensures ∙ c.if-not-holds_path-2.false) c.after_path-set.ensures
+returns c = c.paths_end.ensures ∙ set_counted _ c.if-set-eq0.false c.from.ensures ∙ key_set _ (sym c.holds_path.ensures ∙ c.if-not-holds_path.false) c.after_path-behind.ensures (sym c.holds_path-2.ensures ∙ c.if-not-holds_path-2.false) c.after_path-set.ensures

@@ -1,12 +1,7 @@
-use borrow.Author.Rules.{rules}
-use mathlib.Core.Path.{refl, sym, ◌∙◌}
-use borrow.Author.Tests.{not-false}
+use Rattle.std.proofs.Common.{◌-◌}
 use Rattle.read_record.specs.BodyParts.{paths_end}
-use Rattle.read_record.specs.Bodies.{Ends, ends_next, ends_stop, ends_done}
+use Rattle.read_record.specs.Bodies.{Ends}
 use Rattle.read_record.proofs.bodies.paths_end.Given as goal
 
-abbrev pub invariant-loop-left : goal.invariant-loop-left
-invariant-loop-left l = Ends l.left l.rest (paths_end l.count l.l)
-
-abbrev pub decreases-loop-left : goal.decreases-loop-left
-decreases-loop-left l = l.left
+abbrev pub invariant-loop : goal.invariant-loop
+invariant-loop l = Ends (l.count - l.counter) l.rest (paths_end l.count l.l)

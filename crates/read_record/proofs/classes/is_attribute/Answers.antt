@@ -1,15 +1,12 @@
+use Rattle.std.proofs.Common.{sym, arith}
 use Rattle.read_record.specs.ClassTests.{text_no_attribute, filler_attribute_lem, table_attribute}
-use mathlib.Core.Path.{sym, ◌∙◌, ap}
-use lib.Dec.{eqb}
-use Prim.Native.Nat.{ℕ}
-use borrow.Author.Rules.{rules}
 use Rattle.read_record.proofs.classes.is_attribute.Goals as goal
 
-pub returns-then-label-eq-TEXT : goal.returns-then-label-eq-TEXT
-returns-then-label-eq-TEXT c = sym (text_no_attribute _ _ c.if-label-eq-TEXT.true)
+pub returns-in-1 : goal.returns-in-1
+returns-in-1 c = sym (text_no_attribute _ _ c.in-1.is)
 
-pub returns-then-label-eq-FILLER_ATTRIBUTE : goal.returns-then-label-eq-FILLER_ATTRIBUTE
-returns-then-label-eq-FILLER_ATTRIBUTE c = sym (filler_attribute_lem _ _ c.if-label-eq-TEXT.false c.if-label-eq-FILLER_ATTRIBUTE.true)
+pub returns-in-202 : goal.returns-in-202
+returns-in-202 c = sym (filler_attribute_lem _ _ (omega arith) c.in-202.is)
 
-pub returns : goal.returns
-returns c = ap (λ (k : ℕ). eqb k 2) c.wide.ensures.0 ∙ table_attribute _ _ c.if-label-eq-TEXT.false c.if-label-eq-FILLER_ATTRIBUTE.false
+pub returns-in_default : goal.returns-in_default
+returns-in_default c = table_attribute _ _ (omega arith) (omega arith)

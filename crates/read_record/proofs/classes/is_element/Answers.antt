@@ -1,13 +1,10 @@
-use Rattle.read_record.specs.ClassTests.{text_no_element, attribute_no_element, other_element}
-use mathlib.Core.Path.{sym, ◌∙◌}
-use borrow.Author.Rules.{rules}
+use Rattle.std.proofs.Common.{ap, ◌∙◌, not, arith}
+use Rattle.std.proofs.lemmas.Bool.Decides.{nat_tests}
+use Rattle.read_record.specs.ClassTests.{element_told, text_no_element}
 use Rattle.read_record.proofs.classes.is_element.Goals as goal
 
-pub returns-then-label-eq-TEXT : goal.returns-then-label-eq-TEXT
-returns-then-label-eq-TEXT c = sym (text_no_element _ _ c.if-label-eq-TEXT.true)
+pub returns-then-label-ne-TEXT : goal.returns-then-label-ne-TEXT
+returns-then-label-ne-TEXT c = ap not c.is_attribute.ensures ∙ element_told _ _ c.if-label-ne-TEXT.true
 
-pub returns-then-is_attribute : goal.returns-then-is_attribute
-returns-then-is_attribute c = sym (attribute_no_element _ _ (sym c.is_attribute.ensures ∙ c.if-is_attribute.true))
-
-pub returns : goal.returns
-returns c = sym (other_element _ _ c.if-label-eq-TEXT.false (sym c.is_attribute.ensures ∙ c.if-is_attribute.false))
+pub returns-else-label-ne-TEXT : goal.returns-else-label-ne-TEXT
+returns-else-label-ne-TEXT c = let e = text_no_element c.args.classes.now _ c.if-label-ne-TEXT.false in grind (arith, nat_tests)

@@ -1,7 +1,6 @@
 use mathlib.Core.Path.{ap, ◌∙◌}
 use borrow.Author.Rules.{part_to_end}
 use Rattle.meaning.specs.Records.{read_node, number}
-use borrow.Author.Rules.{rules}
 use Rattle.read_record.proofs.fields.node_value.Goals as goal
 
 pub returns : goal.returns

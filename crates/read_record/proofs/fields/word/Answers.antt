@@ -1,8 +1,7 @@
+use Rattle.std.proofs.Common.{arith}
 use Rattle.meaning.specs.Records.{word}
-use native.Mathlib.Omega.{arith}
-use borrow.Author.Rules.{rules}
 use Rattle.read_record.proofs.fields.word.Goals as goal
 
 pub returns : goal.returns
 unfolding word
-returns c = (cc, omega arith)
+returns c = (omega (arith, c.from_le_bytes.ensures), omega arith)

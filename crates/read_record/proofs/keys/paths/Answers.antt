@@ -3,7 +3,6 @@ use native.Mathlib.Omega.{arith}
 use lib.ListN.{length, drop}
 use borrow.Author.Rules.{part_to_end}
 use Rattle.read_record.specs.KeyPaths.{set_nonempty, at_start_in, paths_in}
-use borrow.Author.Rules.{rules}
 use Rattle.read_record.proofs.keys.paths.Goals as goal
 
 pub slice_bounds-result-count : goal.slice_bounds-result-count

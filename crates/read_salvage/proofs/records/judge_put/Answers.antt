@@ -1,7 +1,6 @@
 use Prim.Native.Nat.{ℕ}
 use mathlib.Core.Path.{◌∙◌, ap}
 use mathlib.Core.List.{List}
-use borrow.Author.Rules.{rules}
 use borrow.Author.Rules.{part_to_end}
 use Rattle.meaning.specs.Refusals.{first_of}
 use Rattle.read_tree.specs.Nodes.{node_tests_by}

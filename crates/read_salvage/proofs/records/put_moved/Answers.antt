@@ -1,5 +1,4 @@
 use native.Mathlib.Omega.{arith}
-use borrow.Author.Rules.{rules}
 use mathlib.Core.Path.{sym}
 use lib.ListN.{length-set, length-take, length-drop}
 use lib.Seq.{length-take-le}

@@ -1,9 +1,10 @@
-use borrow.Author.Rules.{rules}
+use Rattle.std.proofs.Common.{ap}
+use Rattle.read_judged.specs.Answers.{told, some_number}
 use Rattle.read_salvage.specs.Loop.{count_kept, count_none}
 use Rattle.read_salvage.proofs.salvage.kept_nodes.Goals as goal
 
-pub returns-then-reason-eq-ACCEPTED : goal.returns-then-reason-eq-ACCEPTED
-returns-then-reason-eq-ACCEPTED c = count_kept _ _ c.if-reason-eq-ACCEPTED.true
+pub returns-in-Ok : goal.returns-in-Ok
+returns-in-Ok c = count_kept _ _ (ap told c.in-Ok.is)
 
-pub returns : goal.returns
-returns c = count_none _ _ c.if-reason-eq-ACCEPTED.false
+pub returns-in-Err : goal.returns-in-Err
+returns-in-Err c = rw c.in-Err.is (count_none _ _ (some_number _))

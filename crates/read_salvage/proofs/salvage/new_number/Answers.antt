@@ -1,9 +1,10 @@
-use native.Mathlib.Omega.{arith}
+use Rattle.std.proofs.Common.{ap, arith}
+use Rattle.read_judged.specs.Answers.{told, some_number}
 use Rattle.read_salvage.specs.Loop.{number_kept, number_none}
 use Rattle.read_salvage.proofs.salvage.new_number.Goals as goal
 
-pub returns-then-reason-eq-ACCEPTED : goal.returns-then-reason-eq-ACCEPTED
-returns-then-reason-eq-ACCEPTED c = (number_kept _ _ c.if-reason-eq-ACCEPTED.true, c.requires)
+pub returns-in-Ok : goal.returns-in-Ok
+returns-in-Ok c = (number_kept _ _ (ap told c.in-Ok.is), c.requires)
 
-pub returns : goal.returns
-returns c = (number_none _ _ c.if-reason-eq-ACCEPTED.false, omega arith)
+pub returns-in-Err : goal.returns-in-Err
+returns-in-Err c = (rw c.in-Err.is (number_none _ _ (some_number _)), omega arith)

@@ -1,11 +1,9 @@
 use native.Mathlib.Omega.{arith}
-use borrow.Author.Rules.{rules}
-use mathlib.Core.Path.{◌≡◌, refl, sym, ◌∙◌}
-use borrow.Author.Tests.{not-false}
-use lib.ListN.{length}
+use Rattle.std.proofs.Common.{rules, tests}
+use mathlib.Core.Path.{refl, sym, ◌∙◌}
 use Rattle.theory_records.specs.Bytes.{bytes_from}
 use Rattle.theory_records.specs.Heads.{passed, shorter}
-use Rattle.read_salvage.specs.Loop.{Loop, loop_fits, loop_few, loop_most, loop_used, one_more}
+use Rattle.read_salvage.specs.Loop.{loop_fits, loop_few, loop_most, loop_used, one_more}
 use Rattle.read_salvage.specs.Ends.{loop_start, loop_done, loop_torn}
 use mathlib.Core.Path.{ap}
 use mathlib.Core.Bool.{not}
@@ -14,17 +12,14 @@ use Rattle.read_salvage.proofs.salvage.pass_records.Goals as goal
 pub loop-rest-init : goal.loop-rest-init
 loop-rest-init c = (loop_start c.requires.0 (bytes_from _ (λ i h. (c.shared_slice_known-1.given i).fits)) c.requires.1 c.no_places-places.ensures c.requires.2, refl)
 
-pub overflow_mul-used : goal.overflow_mul-used
-overflow_mul-used c = let u = loop_used c.loop-rest.invariant.0 c.bytes_of.ensures.0 in search rules
-
 pub returns-then-not-whole : goal.returns-then-not-whole
-returns-then-not-whole c = loop_torn c.requires.0 c.loop-rest.invariant.0 c.loop-rest-test.true c.whole.ensures (ap not c.if-not-whole.true) c.bytes_of.ensures.0
+returns-then-not-whole c = loop_torn c.requires.0 c.loop-rest.invariant.0 (search (rules, tests)) c.whole.ensures (ap not c.if-not-whole.true) c.bytes_of.ensures.0
 
-pub judge_record-reason-requires : goal.judge_record-reason-requires
-judge_record-reason-requires c = let v = c.loop-rest.invariant.0 in (v.is_node, loop_fits v, (loop_most v).0, v.numbers, sym c.whole.ensures ∙ c.if-not-whole.false)
+pub judge_record-judged-requires : goal.judge_record-judged-requires
+judge_record-judged-requires c = let v = c.loop-rest.invariant.0 in (v.is_node, loop_fits v, (loop_most v).0, v.numbers, sym c.whole.ensures ∙ c.if-not-whole.false)
 
 pub overflow_cast-reasons : goal.overflow_cast-reasons
-overflow_cast-reasons c = let l = c.judge_record-reason.ensures.low in search rules
+overflow_cast-reasons c = let l = c.judge_record-judged.ensures.low in let e = c.reason_of.ensures in omega arith
 
 pub bounds-reasons-records : goal.bounds-reasons-records
 bounds-reasons-records c = loop_few c.loop-rest.invariant.0 (passed _ c.whole.ensures (ap not c.if-not-whole.false)).head
@@ -60,10 +55,10 @@ pub loop-rest-smaller : goal.loop-rest-smaller
 loop-rest-smaller c = let p = passed _ c.whole.ensures (ap not c.if-not-whole.false) in let l = p.long in let h = p.within in let e = c.word-end.ensures.0 in shorter c.loop-rest.rest.now c.word-end.result (omega arith) (omega arith)
 
 pub loop-rest-preserved : goal.loop-rest-preserved
-loop-rest-preserved c = (one_more c.loop-rest.invariant.0 (bytes_from _ (λ i h. (c.slice_known-in-loop-rest-1.given i).fits)) c.judge_record-reason.auto.out c.whole.ensures (ap not c.if-not-whole.false) c.judge_record-reason.ensures c.new_number.ensures.0 c.kept_nodes-nodes.ensures c.word-end.ensures.0, c.judge_record-reason.auto.out ∙ c.loop-rest.invariant.1)
-
-pub overflow_mul-used-2 : goal.overflow_mul-used-2
-overflow_mul-used-2 c = let u = loop_used c.loop-rest.invariant.0 c.bytes_of-2.ensures.0 in search rules
+loop-rest-preserved c = (one_more c.loop-rest.invariant.0 (bytes_from _ (λ i h. (c.slice_known-in-loop-rest-1.given i).fits)) c.judge_record-judged.auto.out c.whole.ensures (ap not c.if-not-whole.false) (rw c.reason_of.ensures c.judge_record-judged.ensures) (rw c.reason_of.ensures c.new_number.ensures.0) (rw c.reason_of.ensures c.kept_nodes-nodes.ensures) c.word-end.ensures.0, c.judge_record-judged.auto.out ∙ c.loop-rest.invariant.1)
 
 pub returns : goal.returns
-returns c = loop_done c.requires.0 c.loop-rest.invariant.0 c.loop-rest-test.false c.bytes_of-2.ensures.0
+returns c = loop_done c.requires.0 c.loop-rest.invariant.0 (search (rules, tests)) c.bytes_of-2.ensures.0
+
+pub overflow_mul-result-2 : goal.overflow_mul-result-2
+overflow_mul-result-2 c = let u = loop_used c.loop-rest.invariant.0 c.bytes_of-2.ensures.0 in search rules

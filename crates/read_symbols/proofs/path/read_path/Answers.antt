@@ -1,27 +1,35 @@
-use mathlib.Core.Logic.{⊎_elim}
-use Prim.Native.Nat.{◌+◌, ◌-◌}
-use lib.ListN.{length}
-use native.Mathlib.Omega.{arith}
-use borrow.Author.Rules.{rules}
-use Rattle.read_entry.specs.Labels.{labels_at}
-use Rattle.read_symbols.specs.Scanning.{Scanning, scan_start, scan_keep, scan_over, path_lone, path_read}
-use Rattle.read_symbols.proofs.path.read_path.Goals.{then-count-lt-SYMBOLS, else-count-lt-SYMBOLS}
+use Rattle.std.proofs.Common.{ap, ◌∙◌, arith, rules, tests, length, map, ◌≤◌}
+use Rattle.std.specs.Slice.Iter.{split_rest, split_done, split_callee}
+use Rattle.std.proofs.lemmas.List.{map_push}
+use Rattle.std.proofs.lemmas.Result.{IfOk-weaker}
+use Rattle.meaning.specs.Lists.{same}
+use Rattle.read_record.specs.Library.{same_list}
+use Rattle.read_symbols.specs.Splitting.{pieces_all, pieces_few}
+use Rattle.read_symbols.specs.Scanning.{path_lone, path_read, scan_counted, scan_start, scan_more}
 use Rattle.read_symbols.proofs.path.read_path.Goals as goal
 
-pub returns-then-same_bytes : goal.returns-then-same_bytes
-returns-then-same_bytes c = path_lone _ _ c.same_bytes.ensures c.if-same_bytes.true
+pub returns-then-eq : goal.returns-then-eq
+returns-then-eq c = path_lone _ _ (c.eq.ensures ∙ (same_list _ _ ∙ ap (same _) c.as_slice.ensures)) c.if-eq.true
 
-pub loop-at-init : goal.loop-at-init
-loop-at-init c = scan_start _ _
+pub loop-piece-init : goal.loop-piece-init
+loop-piece-init c = scan_start _
 
-pub next-end-requires : goal.next-end-requires
-next-end-requires c = c.loop-at-test.true
+pub add_symbol-path-requires : goal.add_symbol-path-requires
+add_symbol-path-requires c =
+    let first = c.into_iter-piece-iterator.ensures.into_iter_gives in
+    let split = c.split-piece-items.ensures in
+    let few : length (map (λ p. p.now) c.loop-piece.yielded) ≤ length c.args.t.now =
+    pieces_few 46 _ _ c.loop-piece.yielded _ c.loop-piece.yielded_by _ _ c.next.ensures.steps c.in-Some.is
+    (ap split_rest first ∙ split.rest) (ap split_done first ∙ split.done) (ap split_callee first ∙ split.closure) (λ x b q k. search (rules, tests)) in
+    IfOk-weaker c.loop-piece.path _ _ (λ read e. omega arith) (scan_counted c.loop-piece.invariant)
+
+pub loop-piece-preserved : goal.loop-piece-preserved
+loop-piece-preserved c = rw map_push (scan_more c.loop-piece.invariant _ _ c.symbol_of.ensures c.add_symbol-path.ensures)
 
 pub returns : goal.returns
-returns c = path_read c.same_bytes.ensures c.if-same_bytes.false c.loop-at.invariant c.loop-at-test.false
-
-pub loop-at-preserved : goal.loop-at-preserved
-loop-at-preserved c = elim c.if-count-lt-SYMBOLS.branch [
-  | then-count-lt-SYMBOLS w ↦ scan_keep c.loop-at.invariant c.loop-at-test.true c.next-end.ensures c.symbol_of-code.ensures c.higher-highest.ensures w.if-count-lt-SYMBOLS.true w.low.ensures w.low-then-count-lt-SYMBOLS.ensures w.path-is
-  | else-count-lt-SYMBOLS w ↦ scan_over c.loop-at.invariant c.loop-at-test.true c.next-end.ensures c.symbol_of-code.ensures c.higher-highest.ensures w.if-count-lt-SYMBOLS.false w.path-is
-]
+returns c =
+    let first = c.into_iter-piece-iterator.ensures.into_iter_gives in
+    let split = c.split-piece-items.ensures in
+    path_read (c.eq.ensures ∙ (same_list _ _ ∙ ap (same _) c.as_slice.ensures)) c.if-eq.false c.loop-piece.invariant
+    (pieces_all 46 _ _ c.loop-piece.yielded _ c.loop-piece.yielded_by _ _ c.next.ensures.steps c.in-None.is
+    (ap split_rest first ∙ split.rest) (ap split_done first ∙ split.done) (ap split_callee first ∙ split.closure) (λ x b q k. search (rules, tests)))

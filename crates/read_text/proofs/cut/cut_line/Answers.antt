@@ -1,30 +1,32 @@
-use mathlib.Core.Path.{refl}
-use borrow.Author.Rules.{rules}
-use Rattle.read_text.specs.Cutting.{cut_open, open_long, cut_second, second_long, cut_third, third_long, cut_last, cut_end}
-use mathlib.Core.Path.{ap}
-use mathlib.Core.Bool.{not}
+use Rattle.std.proofs.Common.{rules}
+use Rattle.read_text.specs.Cutting.{no_open, no_second, no_third, no_last, cut_end, cut_told}
 use Rattle.read_text.proofs.cut.cut_line.Goals as goal
 
-pub returns-then-not-begins : goal.returns-then-not-begins
-returns-then-not-begins c = cut_open _ c.begins.ensures (ap not c.if-not-begins.true)
+pub returns-in_err-strip_prefix : goal.returns-in_err-strip_prefix
+returns-in_err-strip_prefix c = rw c.from_residual.ensures (no_open _ c.in_err-strip_prefix.ensures.cases)
 
-pub next-context-requires : goal.next-context-requires
-next-context-requires c = open_long _ c.begins.ensures (ap not c.if-not-begins.false)
+pub returns-in_err-strip_prefix-2 : goal.returns-in_err-strip_prefix-2
+returns-in_err-strip_prefix-2 c =
+    rw c.from_residual-in_err-strip_prefix-2.ensures
+    (no_second _ c.in_ok-strip_prefix.ensures.cases c.cut_at.ensures.before c.cut_at.ensures.behind c.in_err-strip_prefix-2.ensures.cases)
 
-pub returns-then-not-begins-2 : goal.returns-then-not-begins-2
-returns-then-not-begins-2 c = cut_second _ c.begins.ensures (ap not c.if-not-begins.false) c.next-context.ensures c.begins-2.ensures (ap not c.if-not-begins-2.true)
+pub returns-in_err-strip_prefix-3 : goal.returns-in_err-strip_prefix-3
+returns-in_err-strip_prefix-3 c =
+    rw c.from_residual-in_err-strip_prefix-3.ensures
+    (no_third _ c.in_ok-strip_prefix.ensures.cases c.cut_at.ensures.before c.cut_at.ensures.behind
+    c.in_ok-strip_prefix-2.ensures.cases c.cut_at-2.ensures.before c.cut_at-2.ensures.behind c.in_err-strip_prefix-3.ensures.cases)
 
-pub next-target-requires : goal.next-target-requires
-next-target-requires c = second_long _ c.begins.ensures (ap not c.if-not-begins.false) c.next-context.ensures c.begins-2.ensures (ap not c.if-not-begins-2.false)
-
-pub returns-then-not-begins-3 : goal.returns-then-not-begins-3
-returns-then-not-begins-3 c = cut_third _ c.begins.ensures (ap not c.if-not-begins.false) c.next-context.ensures c.begins-2.ensures (ap not c.if-not-begins-2.false) c.next-target.ensures c.begins-3.ensures (ap not c.if-not-begins-3.true)
-
-pub next-set-requires : goal.next-set-requires
-next-set-requires c = third_long _ c.begins.ensures (ap not c.if-not-begins.false) c.next-context.ensures c.begins-2.ensures (ap not c.if-not-begins-2.false) c.next-target.ensures c.begins-3.ensures (ap not c.if-not-begins-3.false)
-
-pub returns-then-not-begins-4 : goal.returns-then-not-begins-4
-returns-then-not-begins-4 c = cut_last _ c.begins.ensures (ap not c.if-not-begins.false) c.next-context.ensures c.begins-2.ensures (ap not c.if-not-begins-2.false) c.next-target.ensures c.begins-3.ensures (ap not c.if-not-begins-3.false) c.next-set.ensures c.begins-4.ensures (ap not c.if-not-begins-4.true)
+pub returns-in_err-end : goal.returns-in_err-end
+returns-in_err-end c =
+    rw c.from_residual-in_err-end.ensures
+    (no_last _ c.in_ok-strip_prefix.ensures.cases c.cut_at.ensures.before c.cut_at.ensures.behind
+    c.in_ok-strip_prefix-2.ensures.cases c.cut_at-2.ensures.before c.cut_at-2.ensures.behind
+    c.in_ok-strip_prefix-3.ensures.cases c.cut_at-3.ensures.before c.cut_at-3.ensures.behind c.in_err-end.ensures.cases)
 
 pub returns : goal.returns
-returns c = cut_end _ c.begins.ensures (ap not c.if-not-begins.false) c.next-context.ensures c.begins-2.ensures (ap not c.if-not-begins-2.false) c.next-target.ensures c.begins-3.ensures (ap not c.if-not-begins-3.false) c.next-set.ensures c.begins-4.ensures (ap not c.if-not-begins-4.false) refl
+returns c =
+    cut_told _ _
+    (cut_end _ c.in_ok-strip_prefix.ensures.cases c.cut_at.ensures.before c.cut_at.ensures.behind
+    c.in_ok-strip_prefix-2.ensures.cases c.cut_at-2.ensures.before c.cut_at-2.ensures.behind
+    c.in_ok-strip_prefix-3.ensures.cases c.cut_at-3.ensures.before c.cut_at-3.ensures.behind c.in_ok-end.ensures.cases)
+    c.then_some.ensures (search rules)

@@ -17,13 +17,13 @@ pub bounds-bytes-long : goal.bounds-bytes-long
 bounds-bytes-long c = let m = parent_fits c.args.long c.node_parent-parent.result c.args.nodes c.if-nodes-parent.false in let w = c.requires.0 in let z = c.requires.1 in search rules
 
 pub returns-then-not-is_element : goal.returns-then-not-is_element
-returns-then-not-is_element c = below_parent _ _ _ _ _ c.node_parent-parent.ensures.0 c.if-nodes-parent.false c.wide-above.ensures.0 c.is_element.ensures (ap not c.if-not-is_element.true)
+returns-then-not-is_element c = below_parent _ _ _ _ _ c.node_parent-parent.ensures.0 c.if-nodes-parent.false c.from-above.ensures c.is_element.ensures (ap not c.if-not-is_element.true)
 
 pub returns-then-not-is_label : goal.returns-then-not-is_label
-returns-then-not-is_label c = below_label _ _ _ _ _ c.node_parent-parent.ensures.0 c.if-nodes-parent.false c.wide-above.ensures.0 c.is_element.ensures (ap not c.if-not-is_element.false) c.node_label-label.ensures.0 c.is_label.ensures (ap not c.if-not-is_label.true)
+returns-then-not-is_label c = below_label _ _ _ _ _ c.node_parent-parent.ensures.0 c.if-nodes-parent.false c.from-above.ensures c.is_element.ensures (ap not c.if-not-is_element.false) c.node_label-label.ensures.0 c.is_label.ensures (ap not c.if-not-is_label.true)
 
 pub returns-then-not-is_element-2 : goal.returns-then-not-is_element-2
-returns-then-not-is_element-2 c = below_leaf _ _ _ _ _ c.node_parent-parent.ensures.0 c.if-nodes-parent.false c.wide-above.ensures.0 c.is_element.ensures (ap not c.if-not-is_element.false) c.node_label-label.ensures.0 c.is_label.ensures (ap not c.if-not-is_label.false) c.is_element-2.ensures (ap not c.if-not-is_element-2.true)
+returns-then-not-is_element-2 c = below_leaf _ _ _ _ _ c.node_parent-parent.ensures.0 c.if-nodes-parent.false c.from-above.ensures c.is_element.ensures (ap not c.if-not-is_element.false) c.node_label-label.ensures.0 c.is_label.ensures (ap not c.if-not-is_label.false) c.is_element-2.ensures (ap not c.if-not-is_element-2.true)
 
 pub returns : goal.returns
-returns c = below_value _ _ _ _ _ c.node_parent-parent.ensures.0 c.if-nodes-parent.false c.wide-above.ensures.0 c.is_element.ensures (ap not c.if-not-is_element.false) c.node_label-label.ensures.0 c.is_label.ensures (ap not c.if-not-is_label.false) c.is_element-2.ensures (ap not c.if-not-is_element-2.false) c.node_value.ensures.0
+returns c = below_value _ _ _ _ _ c.node_parent-parent.ensures.0 c.if-nodes-parent.false c.from-above.ensures c.is_element.ensures (ap not c.if-not-is_element.false) c.node_label-label.ensures.0 c.is_label.ensures (ap not c.if-not-is_label.false) c.is_element-2.ensures (ap not c.if-not-is_element-2.false) c.node_value.ensures.0

@@ -1,6 +1,5 @@
 use mathlib.Core.Path.{◌∙◌}
 use Rattle.read_tree.specs.Nodes.{node_first, node_later}
-use borrow.Author.Rules.{rules}
 use Rattle.read_tree.proofs.nodes.good_node.Goals as goal
 
 pub returns-then-nodes-eq0 : goal.returns-then-nodes-eq0

@@ -1,5 +1,4 @@
 use Rattle.read_tree.specs.Nodes.{root_parent, root_label, root_value}
-use borrow.Author.Rules.{rules}
 use Rattle.read_tree.proofs.nodes.good_root.Goals as goal
 
 pub returns-then-node_parent-ne-NO_NUMBER : goal.returns-then-node_parent-ne-NO_NUMBER

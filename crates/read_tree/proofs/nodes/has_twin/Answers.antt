@@ -1,12 +1,7 @@
 use mathlib.Core.Path.{sym, ◌∙◌}
 use native.Mathlib.Omega.{arith}
-use Prim.Native.Nat.{suc, ◌-◌}
-use borrow.Author.Rules.{rules}
-use Rattle.read_tree.specs.Nodes.{is_twin, Seeking, seeking_start, seeking_found, seeking_next, seeking_none, parent_fits, count_fits}
+use Rattle.read_tree.specs.Nodes.{seeking_start, seeking_found, seeking_next, seeking_none, parent_fits}
 use Rattle.read_tree.proofs.nodes.has_twin.Goals as goal
-
-pub overflow_add-i : goal.overflow_add-i
-overflow_add-i c = let p = c.requires.2 in omega arith
 
 pub loop-i-init : goal.loop-i-init
 loop-i-init c = seeking_start _ _ _ _ (omega arith)
@@ -16,12 +11,6 @@ is_twin-requires c = let f = parent_fits c.args.long c.loop-i.i c.args.nodes c.l
 
 pub returns-then-is_twin : goal.returns-then-is_twin
 returns-then-is_twin c = seeking_found c.loop-i.invariant c.loop-i-test.true (sym c.is_twin.ensures ∙ c.if-is_twin.true)
-
-pub overflow_add-i-in-loop-i : goal.overflow_add-i-in-loop-i
-overflow_add-i-in-loop-i c = let p = c.requires in let m = count_fits c.args.long c.args.nodes _ p.0 p.1 in let t = c.loop-i-test.true in search rules
-
-pub loop-i-smaller : goal.loop-i-smaller
-loop-i-smaller c = let t = c.loop-i-test.true in omega arith
 
 pub loop-i-preserved : goal.loop-i-preserved
 loop-i-preserved c = seeking_next c.loop-i.invariant c.loop-i-test.true (sym c.is_twin.ensures ∙ c.if-is_twin.false)

@@ -1,5 +1,4 @@
 use Rattle.read_tree.specs.Labels.{label_text, label_element, label_attribute, label_entry}
-use borrow.Author.Rules.{rules}
 use Rattle.read_tree.proofs.nodes.is_label.Goals as goal
 
 pub returns-then-label-eq-TEXT : goal.returns-then-label-eq-TEXT

@@ -1,5 +1,4 @@
 use Rattle.read_tree.specs.Nodes.{body_bad, body_first, body_other, body_repeated, body_once}
-use borrow.Author.Rules.{rules}
 use mathlib.Core.Path.{◌≡◌, ap}
 use mathlib.Core.Bool.{not, true}
 use Rattle.read_tree.proofs.nodes.judge_body.Goals as goal

@@ -1,7 +1,6 @@
 use native.Mathlib.Omega.{arith}
 use Rattle.theory_records.specs.Heads.{passed}
 use Rattle.read_tree.specs.Nodes.{node_many, node_torn, node_other, node_rest, node_body, stride_told}
-use borrow.Author.Rules.{rules}
 use mathlib.Core.Path.{ap}
 use mathlib.Core.Bool.{not}
 use Rattle.read_tree.proofs.nodes.judge_node.Goals as goal

@@ -1,28 +1,38 @@
-use Prim.Native.Nat.{◌+◌, ◌-◌}
-use lib.ListN.{length}
-use native.Mathlib.Omega.{arith}
-use borrow.Author.Rules.{rules}
-use Rattle.read_entry.specs.Labels.{labels_at}
-use Rattle.read_typed.specs.Gathering.{Gathering, gather_start, gather_next, set_none, set_read}
+use Rattle.std.proofs.Common.{ap, ◌∙◌, arith, rules, tests, ◌≤◌, length}
+use Rattle.std.specs.Iterator.Adapters.{enumerate_source, enumerate_count}
+use Rattle.std.proofs.lemmas.List.{map_push, length-map}
+use Rattle.read_symbols.specs.Splitting.{numbered_all, numbered_few}
+use Rattle.read_symbols.specs.Outcomes.{behind_all}
+use Rattle.read_typed.specs.Texts.{text_at, texts_all}
+use Rattle.read_typed.specs.Gathering.{set_none, set_read, no_paths}
 use Rattle.read_typed.proofs.set.read_set.Goals as goal
 
-pub returns-then-t-eq0 : goal.returns-then-t-eq0
-returns-then-t-eq0 c = set_none _ _ _ _ c.requires.1 c.if-t-eq0.true
+pub returns-then-is_empty : goal.returns-then-is_empty
+returns-then-is_empty c = set_none _ _ _ _ c.requires.1 (search (rules, tests))
 
-pub loop-at-init : goal.loop-at-init
-loop-at-init c = gather_start _ _ _ _ (search rules)
-
-pub next-end-requires : goal.next-end-requires
-next-end-requires c = c.loop-at-test.true
-
-pub path_text-requires : goal.path_text-requires
-path_text-requires c = (c.next-end.ensures.low, c.next-end.ensures.high)
+pub loop-place-init : goal.loop-place-init
+loop-place-init c = no_paths _ _ _ c.requires.1
 
 pub add_path-set-requires : goal.add_path-set-requires
-add_path-set-requires c = (c.requires.0, record { done = c.loop-at.invariant.done; holds = c.loop-at.invariant.holds; few = let f = c.loop-at.invariant.few in omega arith })
+add_path-set-requires c =
+    let first = c.into_iter-place-iterator.ensures.into_iter_gives in
+    let from = c.enumerate-place-items.ensures in
+    let split = c.split.ensures in
+    let few : length c.loop-place.yielded ≤ length c.args.t.now =
+    numbered_few 44 _ _ c.loop-place.yielded _ c.loop-place.yielded_by _ _ c.next.ensures.steps (ap enumerate_count first ∙ from.count) (ap enumerate_source first ∙ from.source) split.rest split.done split.closure
+    (λ x b q k. search (rules, tests)) c.in-Some.is in
+    (c.requires.0, record { done = _; holds = c.loop-place.invariant; few = omega (arith, length-map c.loop-place.yielded (λ p. text_at p.0 p.1.now)) })
 
-pub loop-at-preserved : goal.loop-at-preserved
-loop-at-preserved c = gather_next c.loop-at.invariant c.loop-at-test.true c.next-end.ensures c.path_text.ensures c.add_path-set.ensures.1 c.add_path-set.ensures.0
+pub loop-place-preserved : goal.loop-place-preserved
+unfolding behind_all
+loop-place-preserved c = rw (map_push, ← c.path_text.ensures) (c.add_path-set.ensures _ c.loop-place.invariant)
 
 pub returns : goal.returns
-returns c = set_read c.if-t-eq0.false c.loop-at.invariant c.loop-at-test.false
+returns c =
+    let first = c.into_iter-place-iterator.ensures.into_iter_gives in
+    let from = c.enumerate-place-items.ensures in
+    let split = c.split.ensures in
+    set_read (search (rules, tests)) c.loop-place.invariant
+    (texts_all _ c.loop-place.yielded
+    (numbered_all 44 _ _ c.loop-place.yielded _ c.loop-place.yielded_by _ _ c.next.ensures.steps (ap enumerate_count first ∙ from.count) (ap enumerate_source first ∙ from.source) split.rest split.done split.closure
+    (λ x b q k. search (rules, tests)) c.in-None.is))

@@ -1,34 +1,24 @@
-use Prim.Native.Nat.{◌-◌}
-use Rattle.rule_stands.specs.Pointing.{Apart, apart_start, own_there, other_there, body_long, first_same, first_own, apart_more}
-use native.Mathlib.Omega.{arith}
+use Rattle.std.proofs.Common.{arith}
+use Rattle.rule_stands.specs.Pointing.{body_long, first_same, first_own, apart_more}
 use Rattle.rule_stands.proofs.firsts.first_of.Goals as goal
 
-pub line_body-own-requires : goal.line_body-own-requires
-line_body-own-requires c = own_there c.requires
+pub slice_bounds-eq-count : goal.slice_bounds-eq-count
+slice_bounds-eq-count c = body_long c.requires _ (let h = c.loop-i-test.true in omega arith) c.line_body-other.ensures
 
-pub loop-i-init : goal.loop-i-init
-loop-i-init c = apart_start _ _
+pub slice_bounds-eq-start : goal.slice_bounds-eq-start
+slice_bounds-eq-start c = body_long c.requires _ (let h = c.loop-i-test.true in omega arith) c.line_body-other.ensures
 
-pub line_body-other-requires : goal.line_body-other-requires
-line_body-other-requires c = other_there c.requires _ c.loop-i-test.true
+pub slice_bounds-eq-count-in-loop-i : goal.slice_bounds-eq-count-in-loop-i
+slice_bounds-eq-count-in-loop-i c = body_long c.requires _ (omega arith) c.line_body-own.ensures
 
-pub slice_bounds-same_bytes-count : goal.slice_bounds-same_bytes-count
-slice_bounds-same_bytes-count c = body_long c.requires _ (let h = c.loop-i-test.true in omega arith) c.line_body-other.ensures
+pub slice_bounds-eq-start-in-loop-i : goal.slice_bounds-eq-start-in-loop-i
+slice_bounds-eq-start-in-loop-i c = body_long c.requires _ (omega arith) c.line_body-own.ensures
 
-pub slice_bounds-same_bytes-start : goal.slice_bounds-same_bytes-start
-slice_bounds-same_bytes-start c = body_long c.requires _ (let h = c.loop-i-test.true in omega arith) c.line_body-other.ensures
-
-pub slice_bounds-same_bytes-count-in-loop-i : goal.slice_bounds-same_bytes-count-in-loop-i
-slice_bounds-same_bytes-count-in-loop-i c = body_long c.requires _ (omega arith) c.line_body-own.ensures
-
-pub slice_bounds-same_bytes-start-in-loop-i : goal.slice_bounds-same_bytes-start-in-loop-i
-slice_bounds-same_bytes-start-in-loop-i c = body_long c.requires _ (omega arith) c.line_body-own.ensures
-
-pub returns-then-same_bytes : goal.returns-then-same_bytes
-returns-then-same_bytes c = first_same c.requires c.loop-i.invariant c.loop-i-test.true c.line_body-other.ensures c.line_body-own.ensures c.same_bytes.ensures c.if-same_bytes.true
+pub returns-then-eq : goal.returns-then-eq
+returns-then-eq c = first_same c.requires c.loop-i.invariant c.loop-i-test.true c.line_body-other.ensures c.line_body-own.ensures c.eq.ensures c.if-eq.true
 
 pub loop-i-preserved : goal.loop-i-preserved
-loop-i-preserved c = apart_more c.requires c.loop-i.invariant c.loop-i-test.true c.line_body-other.ensures c.line_body-own.ensures c.same_bytes.ensures c.if-same_bytes.false
+loop-i-preserved c = apart_more c.requires c.loop-i.invariant c.loop-i-test.true c.line_body-other.ensures c.line_body-own.ensures c.eq.ensures c.if-eq.false
 
 pub returns : goal.returns
 returns c = first_own c.requires c.loop-i.invariant c.loop-i-test.false

@@ -1,15 +1,14 @@
 use Rattle.rule_tests.specs.RuleLaws.{with_empty_one, with_empty_many, with_empty_other, with_empty_two}
-use borrow.Author.Rules.{rules}
 use Rattle.rule_tests.proofs.rules.is_with_empty.Goals as goal
 
-pub returns-then-n-eq1 : goal.returns-then-n-eq1
-returns-then-n-eq1 c = search (with_empty_one)
+pub returns-in-1 : goal.returns-in-1
+returns-in-1 c = with_empty_one _ c.count.ensures.0 c.in-1.is (cc)
 
-pub returns-then-n-ne2 : goal.returns-then-n-ne2
-returns-then-n-ne2 c = search (with_empty_many)
+pub returns-then-path-eq0 : goal.returns-then-path-eq0
+returns-then-path-eq0 c = with_empty_two _ c.count.ensures.0 c.in-2.is (cc) c.if-path-eq0.true (cc)
 
-pub returns-then-path-ne0 : goal.returns-then-path-ne0
-returns-then-path-ne0 c = search (with_empty_other)
+pub returns-else-path-eq0 : goal.returns-else-path-eq0
+returns-else-path-eq0 c = with_empty_other _ c.count.ensures.0 c.in-2.is (cc) c.if-path-eq0.false
 
-pub returns : goal.returns
-returns c = search (with_empty_two)
+pub returns-in_default : goal.returns-in_default
+returns-in_default c = search with_empty_many

@@ -1,40 +1,42 @@
-use Prim.Native.Nat.{◌+◌, ◌*◌, ◌<◌}
-use mathlib.Core.Path.{◌≡◌, refl}
-use native.Mathlib.Omega.{arith}
-use borrow.Author.Rules.{rules}
-use lib.ListN.{length}
-use Rattle.meaning.specs.Records.{key_in}
-use Rattle.tree_table.specs.FileTable.{file_table}
-use Rattle.tree_table.specs.Seek.{left}
-use Rattle.tree_rows.specs.Rows.{row}
-use Rattle.tree_pairs.specs.Along.{Along, along_falls}
-use Rattle.tree_pairs.specs.Marks.{Hanging, Marked, Unmarked, mark_more, mark_stays, mark_start, mark_next, mark_all, next_link, hung_down}
+use Rattle.std.proofs.Common.{◌<◌, arith}
+use Rattle.tree_pairs.specs.Reach.{key_of}
+use Rattle.tree_pairs.specs.Along.{along_falls}
+use Rattle.tree_pairs.specs.Marks.{mark_more, mark_start, mark_next, mark_all, next_link, hung_down}
 use Rattle.tree_pairs.proofs.pairs.mark.Goals as goal
 
-pub stamp-own-requires : goal.stamp-own-requires
-stamp-own-requires c = let i = c.requires.hanging in let f = i.0.few in let g = i.0.prepared.tree.few in let h = i.1 in let k = i.2 in (omega arith, omega arith)
-
-pub first_hung-y-requires : goal.first_hung-y-requires
-first_hung-y-requires c = let i = c.requires.hanging in let f = i.0.few in let g = i.0.prepared.tree.few in let h = i.1 in let k = i.2 in (omega arith, omega arith)
-
 pub loop-y-init : goal.loop-y-init
-loop-y-init c = let e = c.stamp-own.ensures.0 in (c.requires.hanging.0, c.requires.hanging.1, c.requires.hanging.2, e, c.requires.marked, refl, mark_start _ _ (key_in c.args.body.now).paths c.requires.hanging.0.few _ _ _ c.requires.hanging.1 e c.requires.hanging.0.prepared.tree.some _ _ _ (c.requires.hanging.0.lists.each _ c.requires.hanging.1) _ _ c.requires.hanging.2 c.first_hung-y.ensures.0)
-
-pub family_of-family-requires : goal.family_of-family-requires
-family_of-family-requires c = let i = c.loop-y.invariant in let g = i.0.prepared.tree.few in let y = i.6.inside in omega arith
-
-pub bounds-memo-family : goal.bounds-memo-family
-bounds-memo-family c = let i = c.loop-y.invariant in let g = i.0.prepared.tree.few in let e = c.family_of-family.ensures.0 in let l = i.0.prepared.families.inside c.loop-y.y i.6.inside in let m = i.4.long in omega arith
-
-pub next_hung-y-requires : goal.next_hung-y-requires
-next_hung-y-requires c = let i = c.loop-y.invariant in let f = i.0.few in let g = i.0.prepared.tree.few in let h = i.1 in let y = i.6.inside in (omega arith, omega arith)
+loop-y-init c =
+    let h = c.requires.hanging in (
+      c.requires.marked,
+      mark_start _ _ (key_of c.args.reach.now).paths h.0.few _ _ _ h.1 c.stamp-own.ensures h.0.prepared.tree.some _ _ _ (h.0.lists.each _ h.1) _ _ h.2
+          c.from-y.ensures,
+    )
 
 pub loop-y-smaller : goal.loop-y-smaller
-loop-y-smaller c = let i = c.loop-y.invariant in let n : 0 < c.loop-y.y = omega arith in along_falls _ _ _ _ _ n i.6.inside (next_link _ _ _ _ _ (i.0.lists.each _ i.1) _ _ _ i.2 n i.6.inside (i.6.hangs n) c.next_hung-y.ensures.0)
+loop-y-smaller c =
+    let h = c.requires.hanging in
+    let w = c.loop-y.invariant.1 in
+    let n : 0 < c.loop-y.y = omega arith in
+    along_falls _ _ _ _ _ n w.inside (next_link _ _ _ _ _ (h.0.lists.each _ h.1) _ _ _ h.2 n w.inside (w.hangs n) c.from-y-in-loop-y.ensures)
 
 pub loop-y-preserved : goal.loop-y-preserved
-loop-y-preserved c = let i = c.loop-y.invariant in let n : 0 < c.loop-y.y = omega arith in let g = i.0.prepared.tree.few in let e = c.family_of-family.ensures.0 in let l = i.0.prepared.families.inside c.loop-y.y i.6.inside in let k : c.family_of-family.result < 4096 = omega arith in
-    (i.0, i.1, i.2, i.3, mark_more _ _ _ i.0.few _ _ _ i.1 i.3 c.loop-y.memo _ c.loop-y.y k i.6.inside (hung_down _ _ _ _ _ (i.0.lists.each _ i.1) _ _ i.2 g n i.6.inside (i.6.hangs n)) e i.4, mark_stays _ c.loop-y.memo _ _ i.5, mark_next _ _ (key_in c.args.body.now).paths i.0.few _ _ _ i.1 i.3 i.0.prepared.tree.some _ _ _ (i.0.lists.each _ i.1) c.loop-y.memo _ c.loop-y.y _ k i.4.long i.2 n e c.next_hung-y.ensures.0 i.6)
+loop-y-preserved c =
+    let h = c.requires.hanging in
+    let v = c.loop-y.invariant in
+    let n : 0 < c.loop-y.y = omega arith in
+    let g = h.0.prepared.tree.few in
+    let e = c.family_of.ensures.0 in
+    let l = h.0.prepared.families.inside c.loop-y.y v.1.inside in
+    let k : c.family_of.result < 4096 = omega arith in (
+      mark_more _ _ _ h.0.few _ _ _ h.1 c.stamp-own.ensures c.loop-y.marks _ c.loop-y.y k v.1.inside
+          (hung_down _ _ _ _ _ (h.0.lists.each _ h.1) _ _ h.2 g n v.1.inside (v.1.hangs n)) e v.0,
+      mark_next _ _ (key_of c.args.reach.now).paths h.0.few _ _ _ h.1 c.stamp-own.ensures h.0.prepared.tree.some _ _ _ (h.0.lists.each _ h.1)
+          c.loop-y.marks _ c.loop-y.y _ k v.0.long h.2 n e c.from-y-in-loop-y.ensures v.1,
+    )
 
 pub returns : goal.returns
-returns c = let i = c.loop-y.invariant in (mark_all _ _ (key_in c.args.body.now).paths i.0.few _ _ _ i.1 i.3 i.0.prepared.tree.some _ _ _ (i.0.lists.each _ i.1) _ _ c.loop-y-test.false i.4 i.6, i.5)
+returns c =
+    let h = c.requires.hanging in
+    let v = c.loop-y.invariant in
+    mark_all _ _ (key_of c.args.reach.now).paths h.0.few _ _ _ h.1 c.stamp-own.ensures h.0.prepared.tree.some _ _ _ (h.0.lists.each _ h.1) _ _
+    c.loop-y-test.false v.0 v.1

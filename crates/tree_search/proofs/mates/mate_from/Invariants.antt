@@ -1,21 +1,14 @@
-use Rattle.tree_search.specs.Mates.{Looked}
-use Rattle.tree_search.specs.Start.{pivot_few, number_inside, owner_inside}
-use Rattle.tree_search.specs.Mates.{Chasing, chasing_start, chasing_pass, chasing_take, chasing_end, seen_put}
-use Rattle.tree_pairs.specs.Marks.{Marked, marked_beside}
-use Rattle.tree_rows.specs.Chain.{next_falls}
+use Rattle.std.proofs.Common.{◌≡◌}
+use Rattle.tree_pairs.specs.Reach.{tree_of, classes_of, key_of}
+use Rattle.tree_search.specs.Search.{from_of}
 use Rattle.tree_table.specs.Seek.{left}
-use Rattle.tree_table.specs.FileTable.{file_table, class_by}
-use Rattle.meaning.specs.Records.{key_in}
-use Rattle.tree_rows.specs.Rows.{row}
-use mathlib.Core.Path.{◌≡◌, refl, sym, ◌∙◌, subst}
-use Prim.Native.Nat.{◌*◌}
-use native.Mathlib.Omega.{arith}
-use borrow.Author.Rules.{rules}
+use Rattle.tree_pairs.specs.Marks.{Marked}
+use Rattle.tree_search.specs.Mates.{Chasing}
 use Rattle.tree_search.proofs.mates.mate_from.Given as goal
 
 abbrev pub invariant-loop-y : goal.invariant-loop-y
-invariant-loop-y l = Chasing (class_by l.classes) (file_table l.tree) (key_in l.body) (row 0 l.sorted) (row (12288 * l.mated.pivot) l.hung) (row 8192 l.sorted) l.mated.a l.f l.mated.least l.best l.y
-    × Marked (file_table l.tree) (row 16384 l.rows) (key_in l.body).paths l.memo × (row 0 l.memo ≡ row 0 l.initial.memo)
+invariant-loop-y l = Chasing (classes_of l.targets.reach) (tree_of l.targets.reach) (key_of l.targets.reach) l.targets.sorted.now.top (from_of l.targets) l.targets.sorted.now.number l.mated.a l.number l.mated.least l.best l.y
+    × Marked (tree_of l.targets.reach) l.targets.reach.rows.now.family (key_of l.targets.reach).paths l.memo.marks × (l.memo.seen ≡ l.initial.memo.seen)
 
 abbrev pub decreases-loop-y : goal.decreases-loop-y
-decreases-loop-y l = left (file_table l.tree).size l.y
+decreases-loop-y l = left (tree_of l.targets.reach).size l.y

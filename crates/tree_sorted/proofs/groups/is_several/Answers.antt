@@ -1,16 +1,23 @@
-use Rattle.tree_sorted.specs.Adopting.{several_none, several_by_next, first_inside}
-use native.Mathlib.Omega.{arith}
-use borrow.Author.Tests.{eqb-true, not-false}
+use Rattle.std.proofs.Common.{arith, refl, eqb-true}
+use borrow.Author.Tests.{not-false}
+use Rattle.tree_sorted.specs.Adopting.{first_inside, several_none, several_by_next}
 use Rattle.tree_sorted.proofs.groups.is_several.Goals as goal
 
-pub first_hung-x-requires : goal.first_hung-x-requires
-first_hung-x-requires c = let p = c.requires in let f = p.1 in let g = p.2 in (p.0, omega arith)
+pub bounds-list-x : goal.bounds-list-x
+bounds-list-x c =
+    let p = c.requires in
+    let f = p.0 in
+    let n = c.if-x-ne0.true in
+    let i = first_inside _ _ _ _ p.2 p.0 _ p.1 _ c.from-x.ensures (omega arith) in
+    omega arith
 
-pub returns-then-x-eq0 : goal.returns-then-x-eq0
-returns-then-x-eq0 c = let p = c.requires in several_none _ _ _ _ p.3 p.1 _ p.2 _ c.first_hung-x.ensures.0 c.if-x-eq0.true
+pub returns-then-x-ne0 : goal.returns-then-x-ne0
+returns-then-x-ne0 c =
+    let p = c.requires in
+    several_by_next _ _ _ _ p.2 p.0 _ p.1 _ c.from-x.ensures _ _ c.if-x-ne0.true refl (λ h. eqb-true _ _ (not-false _ h))
 
-pub next_hung-requires : goal.next_hung-requires
-next_hung-requires c = let p = c.requires in let f = p.1 in let n = c.if-x-eq0.false in let i = first_inside _ _ _ _ p.3 f _ p.2 _ c.first_hung-x.ensures.0 (omega arith) in (p.0, omega arith)
-
-pub returns : goal.returns
-returns c = let p = c.requires in several_by_next _ _ _ _ p.3 p.1 _ p.2 _ c.first_hung-x.ensures.0 _ _ c.if-x-eq0.false c.next_hung.ensures.0 (λ h. eqb-true _ _ (not-false _ h))
+pub returns-else-x-ne0 : goal.returns-else-x-ne0
+returns-else-x-ne0 c =
+    let p = c.requires in
+    let e = c.if-x-ne0.false in
+    rw e (several_none _ _ _ _ p.2 p.0 _ p.1 _ c.from-x.ensures e)

@@ -1,30 +1,30 @@
-use lib.ListN.{get_or}
-use mathlib.Core.List.{List}
-use Rattle.tree_sorted.specs.Stores.{OthersStay, others_start, others_store, lists_step, from_stays}
-use Rattle.tree_sorted.specs.Hung.{HungFrom, hung_none, hung_pass}
-use Rattle.tree_rows.specs.Rows.{row}
-use mathlib.Core.Path.{◌≡◌, refl, ◌∙◌, ap, subst}
-use Prim.Native.Nat.{ℕ, ◌+◌, ◌*◌, ◌-◌, ◌≤◌, ◌<◌}
-use native.Mathlib.Omega.{arith}
-use borrow.Author.Rules.{rules}
+use Rattle.std.proofs.Common.{ℕ, ◌-◌, List, get_or, ◌∙◌, ap, refl, rules, arith, length-set}
+use Rattle.tree_sorted.specs.Hung.{hung_none, hung_more, hung_pass}
 use Rattle.tree_sorted.proofs.lists.link_up.Goals as goal
 
 pub loop-x-init : goal.loop-x-init
-loop-x-init c = (c.requires.count_nonzero.0, omega arith, hung_none _ _ _ _ c.requires.origins_found.zeros, refl, others_start _ _ c.requires.count_nonzero.3)
+loop-x-init c = (search rules, search rules, refl, hung_none _ _ _ _ c.requires.origins_found.zeros)
 
-pub from_of-a-requires : goal.from_of-a-requires
-from_of-a-requires c = (c.requires.count_nonzero.2, let f = c.requires.count_nonzero.1 in let v = c.loop-x.invariant in omega arith)
-
-pub loop-x-preserved-then-a-lt-TREE_NODES : goal.loop-x-preserved-then-a-lt-TREE_NODES
-loop-x-preserved-then-a-lt-TREE_NODES c = let v = c.loop-x.invariant in let e = c.from_of-a.ensures.0 in let f = c.requires.count_nonzero.1 in let l = c.loop-x-test.true in let t = c.if-a-lt-TREE_NODES.true in
-    let is = e ∙ ap (λ (s : List ℕ). get_or s (c.loop-x.x - 1) 0) v.3 in
-    let b = c.requires.origins_found.inside (c.loop-x.x - 1) (omega arith) (omega arith) in
-    (omega arith, omega arith, lists_step _ _ c.requires.count_nonzero.2 v.4.long _ _ _ _ l v.1 f is (omega arith) v.2, from_stays _ _ c.requires.count_nonzero.2 v.4.long _ _ _ _ (omega arith) (omega arith) ∙ v.3, others_store _ _ _ _ _ (omega arith) (omega arith) (others_store _ _ _ _ _ (omega arith) (omega arith) v.4))
+pub loop-x-preserved-then-above-lt-TREE_NODES : goal.loop-x-preserved-then-above-lt-TREE_NODES
+loop-x-preserved-then-above-lt-TREE_NODES c =
+    let v = c.loop-x.invariant in
+    let p = c.requires.count_nonzero in
+    let l = c.loop-x-test.true in
+    let h = c.loop-x.auto.x in
+    let f = p.1 in
+    let t = c.if-above-lt-TREE_NODES.true in
+    let is = c.from-above.ensures ∙ ap (λ (s : List ℕ). get_or s (c.loop-x.x - 1) 0) v.2 in
+    let b = c.requires.origins_found.inside (c.loop-x.x - 1) (omega arith) (omega arith) in (
+      length-set c.loop-x.list.first _ _ ∙ v.0,
+      length-set c.loop-x.list.next _ _ ∙ v.1,
+      v.2,
+      hung_more _ _ _ _ _ _ l (omega arith) f is v.3 v.0 v.1 (omega arith),
+    )
 
 pub loop-x-preserved : goal.loop-x-preserved
-loop-x-preserved c = let v = c.loop-x.invariant in let e = c.from_of-a.ensures.0 in let f = c.requires.count_nonzero.1 in let l = c.loop-x-test.true in
-    let is = e ∙ ap (λ (s : List ℕ). get_or s (c.loop-x.x - 1) 0) v.3 in
-    (omega arith, omega arith, hung_pass _ _ _ _ _ _ l v.1 f is v.2 c.if-a-lt-TREE_NODES.false, v.3, v.4)
-
-pub returns : goal.returns
-returns c = let v = c.loop-x.invariant in let a = v.0 in let b = c.loop-x-test.false in (subst (HungFrom _ _ _ _) (omega arith) v.2, v.3, v.4)
+loop-x-preserved c =
+    let v = c.loop-x.invariant in
+    let p = c.requires.count_nonzero in
+    let h = c.loop-x.auto.x in
+    let is = c.from-above.ensures ∙ ap (λ (s : List ℕ). get_or s (c.loop-x.x - 1) 0) v.2 in
+    (v.0, v.1, v.2, hung_pass _ _ _ _ _ _ c.loop-x-test.true (omega arith) p.1 is v.3 c.if-above-lt-TREE_NODES.false)

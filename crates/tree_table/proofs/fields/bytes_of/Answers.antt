@@ -1,9 +1,9 @@
-use native.Mathlib.Omega.{arith}
+use Rattle.std.proofs.Common.{arith}
 use Rattle.tree_table.specs.FileTable.{bytes_wide, bytes_other}
 use Rattle.tree_table.proofs.fields.bytes_of.Goals as goal
 
-pub returns-then-kind-eq-WIDE_KIND : goal.returns-then-kind-eq-WIDE_KIND
-returns-then-kind-eq-WIDE_KIND c = (bytes_wide _ c.if-kind-eq-WIDE_KIND.true, omega arith, omega arith)
+pub returns-in-5 : goal.returns-in-5
+returns-in-5 c = (bytes_wide _ c.in-5.is, omega arith, omega arith)
 
-pub returns : goal.returns
-returns c = (bytes_other _ c.if-kind-eq-WIDE_KIND.false, omega arith, omega arith)
+pub returns-in_default : goal.returns-in_default
+returns-in_default c = (bytes_other _ (λ e. omega arith), omega arith, omega arith)

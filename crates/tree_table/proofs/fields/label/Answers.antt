@@ -17,4 +17,4 @@ bounds-tree-node_bytes c = let f = told_fits _ _ _ c.node_bytes.ensures.0 c.requ
 
 pub returns : goal.returns
 unfolding file_table
-returns c = (c.wide.ensures.0 ∙ ap (λ (w : ℕ). get_or c.args.tree.now (w * c.args.i + 6) 0) c.node_bytes.ensures.0, c.wide.ensures.1)
+returns c = (c.from.ensures ∙ ap (λ (w : ℕ). get_or c.args.tree.now (w * c.args.i + 6) 0) c.node_bytes.ensures.0, omega arith)

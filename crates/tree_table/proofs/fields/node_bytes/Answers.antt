@@ -2,7 +2,6 @@ use Prim.Native.Nat.{ℕ, ◌+◌}
 use mathlib.Core.Path.{ap, ◌∙◌}
 use Rattle.meaning.specs.Records.{value_bytes}
 use Rattle.tree_table.specs.FileTable.{file_stride}
-use borrow.Author.Rules.{rules}
 use Rattle.tree_table.proofs.fields.node_bytes.Goals as goal
 
 pub returns : goal.returns

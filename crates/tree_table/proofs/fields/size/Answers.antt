@@ -2,7 +2,6 @@ use Prim.Native.Nat.{ℕ, ◌/◌}
 use lib.ListN.{length}
 use mathlib.Core.Path.{ap}
 use Rattle.tree_table.specs.FileTable.{file_table}
-use borrow.Author.Rules.{rules}
 use Rattle.tree_table.proofs.fields.size.Goals as goal
 
 pub returns : goal.returns

@@ -1,9 +1,7 @@
-use Prim.Native.Nat.{◌-◌}
-use native.Mathlib.Omega.{arith}
 use borrow.Author.Rules.{rules}
 use mathlib.Core.Path.{refl}
 use Rattle.theory_reduce.specs.Numbers.{listed_none}
-use Rattle.write_chosen.specs.Dropping.{Numbering, numbering_start, numbering_count, numbering_next, numbering_end}
+use Rattle.write_chosen.specs.Dropping.{numbering_start, numbering_count, numbering_next, numbering_end}
 use Rattle.write_chosen.proofs.numbers.dropped_numbers.Goals as goal
 
 pub loop-n-init : goal.loop-n-init

@@ -1,11 +1,10 @@
 use lib.Seq.{length-take-le}
 use mathlib.Core.Path.{sym}
 use Rattle.theory_records.specs.Bytes.{bytes_from}
-use Prim.Native.Nat.{◌-◌}
 use native.Mathlib.Omega.{arith}
 use borrow.Author.Rules.{rules}
 use mathlib.Core.Path.{refl}
-use Rattle.write_chosen.specs.Choosing.{Choosing, choosing_start, choosing_long, choosing_room, choosing_count, choosing_next, choosing_end}
+use Rattle.write_chosen.specs.Choosing.{choosing_start, choosing_long, choosing_room, choosing_count, choosing_next, choosing_end}
 use Rattle.write_chosen.proofs.records.put_chosen.Goals as goal
 
 pub loop-n-init : goal.loop-n-init
@@ -25,9 +24,6 @@ slice_bounds-rest-count c = choosing_long c.requires.0 _ c.requires.1 c.loop-n.i
 
 pub slice_bounds-rest-start : goal.slice_bounds-rest-start
 slice_bounds-rest-start c = omega (arith, choosing_long c.requires.0 _ c.requires.1 c.loop-n.invariant c.loop-n-test.true c.front_length-end.ensures)
-
-pub overflow_add-n : goal.overflow_add-n
-overflow_add-n c = omega (arith, c.requires.0.few)
 
 pub loop-n-preserved : goal.loop-n-preserved
 loop-n-preserved c = choosing_next c.requires.0 _ c.requires.1 c.loop-n.invariant c.loop-n-test.true c.front_length-end.ensures (bytes_from _ (λ i h. (c.shared_slice_known-1.given i).fits)) refl c.put_if-chosen.ensures refl

@@ -1,7 +1,6 @@
 use native.Mathlib.Omega.{arith}
 use lib.ListN.{length-set}
 use Rattle.write_salvage.specs.Lines.{broken_wrote}
-use borrow.Author.Rules.{rules}
 use Rattle.write_salvage.proofs.lines.put_broken.Goals as goal
 
 pub shape_of-out : goal.shape_of-out

@@ -1,7 +1,6 @@
 use native.Mathlib.Omega.{arith}
 use Rattle.write_listing.specs.Decimal.{twenty_digits}
 use Rattle.write_salvage.specs.Lines.{digits_wrote}
-use borrow.Author.Rules.{rules}
 use Rattle.write_salvage.proofs.lines.put_digits.Goals as goal
 
 pub put_decimal-requires : goal.put_decimal-requires

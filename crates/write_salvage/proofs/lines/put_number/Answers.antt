@@ -1,7 +1,6 @@
 use native.Mathlib.Omega.{arith}
 use lib.ListN.{length-set}
 use Rattle.write_salvage.specs.Lines.{number_wrote}
-use borrow.Author.Rules.{rules}
 use Rattle.write_salvage.proofs.lines.put_number.Goals as goal
 
 pub put_digits-requires : goal.put_digits-requires

@@ -1,5 +1,4 @@
 use Rattle.write_salvage.specs.Lines.{pair_shown, pair_none}
-use borrow.Author.Rules.{rules}
 use Rattle.write_salvage.proofs.lines.put_pair.Goals as goal
 
 pub returns-then-shown : goal.returns-then-shown

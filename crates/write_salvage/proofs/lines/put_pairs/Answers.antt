@@ -1,5 +1,4 @@
 use Rattle.write_salvage.specs.Lines.{pairs_wrote}
-use borrow.Author.Rules.{rules}
 use Rattle.write_salvage.proofs.lines.put_pairs.Goals as goal
 
 pub returns : goal.returns

@@ -1,7 +1,6 @@
 use native.Mathlib.Omega.{arith}
 use lib.ListN.{length-set}
 use Rattle.write_salvage.specs.Lines.{salvaged_wrote}
-use borrow.Author.Rules.{rules}
 use Rattle.write_salvage.proofs.lines.put_salvaged.Goals as goal
 
 pub shape_of-out : goal.shape_of-out

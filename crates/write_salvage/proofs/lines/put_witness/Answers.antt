@@ -1,5 +1,4 @@
 use Rattle.write_salvage.specs.Lines.{witness_wrote}
-use borrow.Author.Rules.{rules}
 use Rattle.write_salvage.proofs.lines.put_witness.Goals as goal
 
 pub returns : goal.returns

@@ -1,5 +1,4 @@
 use Rattle.write_step.specs.StepLines.{empty_wrote}
-use borrow.Author.Rules.{rules}
 use Rattle.write_step.proofs.branch.write_empty.Goals as goal
 
 pub returns : goal.returns

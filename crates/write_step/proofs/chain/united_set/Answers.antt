@@ -1,6 +1,5 @@
 use Rattle.write_step.specs.StepLines.{unite_fits, united_yes, united_no}
 use Rattle.write_step.specs.Fits.{body_put}
-use borrow.Author.Rules.{rules}
 use Rattle.theory_pattern.specs.Spots.{holds_empty}
 use Rattle.write_step.proofs.chain.united_set.Goals as goal
 

@@ -3,7 +3,6 @@ use Rattle.write_step.specs.RowKeys.{united_bytes}
 use lib.Seq.{length-take-le}
 use mathlib.Core.Path.{sym}
 use native.Mathlib.Omega.{arith}
-use borrow.Author.Rules.{rules}
 use Rattle.write_step.proofs.chain.write_chain.Goals as goal
 
 pub slice_bounds-write_chain_lines-end : goal.slice_bounds-write_chain_lines-end

@@ -3,7 +3,6 @@ use Rattle.write_step.specs.StepFits.{cited_fits, narrowed_fits}
 use lib.Seq.{length-take-le}
 use mathlib.Core.Path.{sym}
 use native.Mathlib.Omega.{arith}
-use borrow.Author.Rules.{rules}
 use Rattle.write_step.proofs.chain.write_opening.Goals as goal
 
 pub write_of_key-second-requires : goal.write_of_key-second-requires

@@ -1,5 +1,4 @@
 use Rattle.write_step.specs.Singles.{of_key_fits, of_key_wrote}
-use borrow.Author.Rules.{rules}
 use Rattle.write_step.proofs.single.write_of_key.Goals as goal
 
 pub write_line-requires : goal.write_line-requires

@@ -3,7 +3,6 @@ use Rattle.write_step.specs.Lines.{line_one}
 use lib.Seq.{length-take-le}
 use mathlib.Core.Path.{sym}
 use native.Mathlib.Omega.{arith}
-use borrow.Author.Rules.{rules}
 use Rattle.write_step.proofs.single.write_part.Goals as goal
 
 pub slice_bounds-write_line-end : goal.slice_bounds-write_line-end

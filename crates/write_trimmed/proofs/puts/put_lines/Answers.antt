@@ -1,8 +1,5 @@
 use mathlib.Core.Path.{sym}
-use Prim.Native.Nat.{◌+◌, ◌-◌, ◌≤◌}
-use mathlib.Core.Logic.{⊎_elim}
-use Rattle.write_bytes.specs.Wrote.{Wrote}
-use Rattle.write_trimmed.specs.Putting.{kept_bytes, puts_start, puts_room, puts_skip, puts_next, puts_end, wrote_there}
+use Rattle.write_trimmed.specs.Putting.{puts_start, puts_room, puts_skip, puts_next, puts_end, wrote_there}
 use native.Mathlib.Omega.{arith}
 use Rattle.write_trimmed.proofs.puts.put_lines.Goals.{then-marks-n, else-marks-n}
 use Rattle.write_trimmed.proofs.puts.put_lines.Goals as goal
@@ -24,3 +21,9 @@ loop-n-preserved c = (
     | else-marks-n w ↦ wrote_there (sym w.out-is) (sym w.next-is) (puts_skip c.requires _ c.loop-n.invariant.1 w.if-marks-n.false)
   ],
 )
+
+pub returns-after-marks-n : goal.returns-after-marks-n
+returns-after-marks-n c = elim c.if-marks-n.branch [
+  | then-marks-n w ↦ puts_end c.requires _ (wrote_there (sym w.out-is) (sym w.next-is) (puts_next c.requires _ c.loop-n.invariant.1 w.if-marks-n.true w.put_line-next.ensures)) (omega arith) (omega arith)
+  | else-marks-n w ↦ puts_end c.requires _ (wrote_there (sym w.out-is) (sym w.next-is) (puts_skip c.requires _ c.loop-n.invariant.1 w.if-marks-n.false)) (omega arith) (omega arith)
+]

@@ -1,5 +1,0 @@
-use Rattle.std.proofs.Common.{◌-◌}
-use Rattle.program_tree_dot.proofs.graph.print_legend_pairs.Given as goal
-
-abbrev pub decreases-loop-j : goal.decreases-loop-j
-decreases-loop-j g l = l.count - l.j

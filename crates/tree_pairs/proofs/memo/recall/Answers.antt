@@ -1,7 +1,0 @@
-use Rattle.tree_rows.specs.Rows.{row_at}
-use mathlib.Core.Path.{◌∙◌, sym}
-use borrow.Author.Rules.{rules}
-use Rattle.tree_pairs.proofs.memo.recall.Goals as goal
-
-pub returns : goal.returns
-returns c = (c.wide.ensures.0 ∙ sym (row_at _ _ _ (search rules)), c.wide.ensures.1)

@@ -1,6 +1,0 @@
-use Rattle.tree_table.specs.Zeros.{zeros_at}
-use mathlib.Core.Path.{refl}
-use Rattle.tree_table.proofs.tables.blank.Goals as goal
-
-pub returns : goal.returns
-returns c = (refl, zeros_at 4096)
