@@ -1,5 +1,5 @@
 -- The code's tally is that of `theory_campaign`; one law for each return of counting.
-use Rattle.std.specs.Prelude.{ℕ, suc, min, ltb, ◌+◌, ◌<◌, ◌≤◌, ◌≡◌, refl, Bool, true, false, cond, List, length, get_or, set}
+use Rattle.std.specs.Prelude.{ℕ, min, ltb, ◌+◌, ◌<◌, ◌≤◌, ◌≡◌, refl, Bool, true, false, cond, List, length, get_or, set}
 use Rattle.std.proofs.Common.{sym, ◌∙◌, ap, subst, true≢false, arith, lt-ltb, le-ltb, length-set, get_or-set_same, get_or-set_other}
 use Rattle.std.proofs.Math.Decide.{ℕ_discrete, dec_lt}
 use Rattle.meaning.specs.Tally.{bump, Bumped, counts, stays}
@@ -10,13 +10,20 @@ abbrev pub tally_of : Tally → Lists.Tally
 tally_of t = record { kept = t.kept; broken = t.broken; refused = t.refused; unread = t.unread }
 
 -- one more, as far as two bytes go
-pub bump_is : (n : ℕ) → n < 65536 → min (n + 1) 65535 ≡ bump n
+pub bump_less : (n : ℕ) → n < 65535 → n + 1 ≡ bump n
 unfolding bump
+bump_less n h = rw (lt-ltb n 65535 h) (omega arith)
+
+pub bump_full : (n : ℕ) → 65535 ≤ n → n ≡ bump n
+unfolding bump
+bump_full n h = rw (le-ltb n 65535 h) refl
+
+pub bump_is : (n : ℕ) → n < 65536 → min (n + 1) 65535 ≡ bump n
 bump_is n h = go (dec_lt n 65535)
   where
-    go : Dec (n < 65535) → min (n + 1) 65535 ≡ cond (ltb n 65535) (suc n) n
-    go (yes l) = rw (lt-ltb n 65535 l) (omega arith)
-    go (no m) = rw (le-ltb n 65535 (omega arith)) (omega arith)
+    go : Dec (n < 65535) → min (n + 1) 65535 ≡ bump n
+    go (yes l) = let e : min (n + 1) 65535 ≡ n + 1 = omega arith in e ∙ bump_less n l
+    go (no m) = let e : min (n + 1) 65535 ≡ n = omega arith in e ∙ bump_full n (omega arith)
 
 -- one more at a place
 abbrev pub more : List ℕ → ℕ → List ℕ

@@ -3,7 +3,7 @@ ghost use Rattle.std.specs.Prelude.{◌≡◌, true};
 ghost use Rattle.program_advice.specs.Advice.{Follows};
 
 use crate::candidates::{put_cut, put_with_path};
-use crate::keys::{path_at, target_of};
+use crate::keys::{keys_of, path_at, target_of};
 use op_answers::Decision;
 use op_decide::decide;
 use op_write_line::write_line;
@@ -111,9 +111,9 @@ fn print_with_path(
     )
 }
 
-// A path stands among the first n key paths of the profile's keys.
-fn tried(profile: &[u8], path: &[u8], n: usize) -> bool {
-    (0..n).any(|i| path_at(profile, i).is_some_and(|other| other == path))
+// A path stands among the first n key paths of the keys.
+fn tried(keys: &[u8], path: &[u8], n: usize) -> bool {
+    (0..n).any(|i| path_at(keys, i).is_some_and(|other| other == path))
 }
 
 // "with one key path more, taken from the key paths of profile keys that fit": one that stands in S already is refused as repeated.
@@ -123,12 +123,13 @@ fn print_paths(
     before: usize,
     answer: &mut [u8],
 ) -> io::Result<usize> {
+    let keys = keys_of(asked.profile);
     let mut printed = before;
     for n in 0..MOST_PATHS {
-        let Some(path) = path_at(asked.profile, n) else {
+        let Some(path) = path_at(keys, n) else {
             break;
         };
-        if !tried(asked.profile, path, n) {
+        if !tried(keys, path, n) {
             printed = print_with_path(rt, asked, path, printed, answer)?;
         }
     }

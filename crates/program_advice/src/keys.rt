@@ -46,18 +46,28 @@ fn path_in(set: &[u8], n: usize) -> &[u8] {
     lead(rest)
 }
 
-// Key path n of all the keys of a profile, one key after the other, if there are so many.
-pub fn path_at(profile: &[u8], n: usize) -> Option<&[u8]> {
-    let mut left = n;
+// A profile from its first key on.
+pub fn keys_of(profile: &[u8]) -> &[u8] {
+    let mut rest = profile;
     for record in Records::new(profile, 0) {
         if record_kind(record) == KEY_KIND {
-            let set = set_of(record);
-            let count = byte_at(set, 0);
-            if left < count {
-                return Some(path_in(set, left));
-            }
-            left -= count;
+            break;
         }
+        rest = part(rest, record.len(), rest.len());
+    }
+    rest
+}
+
+// Key path n of all the keys, one key after the other, if there are so many. The labels are left out once, by `keys_of`, and not at each path.
+pub fn path_at(keys: &[u8], n: usize) -> Option<&[u8]> {
+    let mut left = n;
+    for record in Records::new(keys, 0) {
+        let set = set_of(record);
+        let count = byte_at(set, 0);
+        if left < count {
+            return Some(path_in(set, left));
+        }
+        left -= count;
     }
     None
 }

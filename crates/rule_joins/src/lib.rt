@@ -1,4 +1,5 @@
-// What the rules of inference ask of paths beside words ("Rules of inference"): joins, which are tested against a path that is there and never built.
+// What the rules of inference ask of paths beside words ("Rules of inference"): a beginning, and joins, which are tested against a path that is there and
+// never built.
 #![tactic(auto)]
 
 ghost use Rattle.std.specs.Prelude.{◌≡◌, ◌++◌};
@@ -8,6 +9,16 @@ ghost use Rattle.rule_joins.specs.Forms.{is_beginning, is_doubled};
 ghost use Rattle.rule_joins.specs.Joins.{BothNormal, Overlap};
 
 use path_words::ANY_PATH;
+
+// p begins with s. The library's `starts_with` is a call; parts of one length that differ in their first symbols cost none.
+pub fn begins(s: &[u8], p: &[u8]) -> bool
+    ensures { result ≡ is_beginning s.now p.now }
+{
+    if p.len() < s.len() {
+        return false;
+    }
+    s == &p[..s.len()]
+}
 
 fn doubled(s: u8, t: u8) -> bool
     ensures { result ≡ is_doubled s t }

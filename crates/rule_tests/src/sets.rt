@@ -8,7 +8,7 @@ ghost use Rattle.theory_rule_tests.specs.Interactions.{prefixed};
 
 use read_record::key::Key;
 use read_record::keys::counted_set;
-use rule_joins::is_both;
+use rule_joins::{begins, is_both};
 
 // Equal sets are equal bytes: each set has one encoding.
 #[tactic(auto, using(crate::specs::SetBytes::same_sets_law))]
@@ -29,7 +29,7 @@ pub fn is_among(path: &[u8], key: &Key) -> bool
 pub fn begins_some(path: &[u8], key: &Key) -> bool
     ensures { result ≡ any (is_beginning path.now) (seen key.now).paths }
 {
-    key.paths().any(|other| other.starts_with(path))
+    key.paths().any(|other| begins(path, other))
 }
 
 // "the new set includes S"

@@ -1,11 +1,10 @@
 -- Landings as the code tests them: a law for each return and each turn.
 use Prim.Native.Nat.{ℕ, suc, ◌+◌, ◌-◌, ◌≤◌, ◌<◌}
-use Rattle.std.specs.Prelude.{◌≡◌, Bool, ◌&&◌, ◌||◌, List, eqb, leb, take, drop, ◌==◌}
+use Rattle.std.specs.Prelude.{◌≡◌, Bool, ◌&&◌, ◌||◌, List, eqb, leb, take, drop}
 use Rattle.std.proofs.Math.Path.{sym, ap}
 use Rattle.std.proofs.Common.{◌∙◌, add-one, arith, take_at}
 use Rattle.std.proofs.Math.Bool.{true, false, and-true, and-false}
 use Rattle.std.proofs.lemmas.Slice.{between_is}
-use Rattle.std.specs.List.{starts_with}
 use borrow.Author.Rules.{part_to_end}
 use Rattle.std.proofs.Math.ListN.{length}
 use Rattle.std.proofs.Math.Seq.{length-slice}
@@ -14,11 +13,11 @@ use Rattle.meaning.specs.Lists.{any, is_empty, same, numbers}
 use Rattle.meaning.specs.Keys.{Key}
 use Rattle.meaning.specs.Records.{read_key, key_in, is_some}
 use Rattle.meaning.specs.Pattern.{t_of}
-use Rattle.read_record.specs.Library.{same_list}
 use Rattle.theory_lists.specs.Bools.{bool_eq, same_eq, eq_same}
 use Rattle.theory_pattern.specs.Spots.{row_of, part, holds_empty, marked_at, lands_on, lands}
 use Rattle.theory_pattern.specs.Rows.{row_length}
 use Rattle.theory_pattern.specs.RowParts.{part_drop}
+use Rattle.rule_joins.specs.Forms.{is_beginning}
 use Rattle.step_rows.specs.Drawn.{Drawn, HasRow, row_in, drawn_has, drawn_is}
 
 -- a row's marks and landings, the row given
@@ -73,12 +72,12 @@ pub ruleset marks = (marked_end, marked_above, marked_below)
 same_sym : (a b : List ℕ) → same a b ≡ same b a
 same_sym a b = bool_eq _ _ (λ t. eq_same b a (sym (same_eq a b t))) (λ t. eq_same a b (sym (same_eq b a t)))
 
--- landings on one row, by the library's test
-module _ {body row : List ℕ} {k : ℕ} (o : OnRow body row k) (p : List ℕ) {r : Bool} (e : r ≡ starts_with ◌==◌ (take (length row - k) (drop k row)) p) where
+-- landings on one row, by `rule_joins::begins`
+module _ {body row : List ℕ} {k : ℕ} (o : OnRow body row k) (p : List ℕ) {r : Bool} (e : r ≡ is_beginning p (take (length row - k) (drop k row))) where
   reads : same (part k (k + length p) row) p ≡ r
-  unfolding part
+  unfolding part is_beginning
   reads =
-      sym (e ∙ same_list p _ ∙ same_sym p _
+      sym (e ∙ same_sym p _
       ∙ ap (λ (l : List ℕ). same (take (length p) l) p) (part_to_end row k)
       ∙ ap (λ (l : List ℕ). same l p) (let z : k + length p - k ≡ length p = omega arith in sym (ap (λ (n : ℕ). take n (drop k row)) z) ∙ between_is row k (k + length p)))
 

@@ -11,6 +11,7 @@ ghost use Rattle.step_landings.specs.Landing.{marked_in, lands_in, OnRow, OnChai
 
 use read_record::key::Key;
 use read_record::keys::{context, count, holds_empty, target};
+use rule_joins::begins;
 use step_rows::Pattern;
 
 // The number of t: "from the root along C to q, on along T to t".
@@ -37,7 +38,7 @@ fn lands_in(asked: &[u8], symbols: &[u8], path: &[u8], k: usize) -> bool
     requires { OnRow asked.now symbols.now k }
     ensures { result ≡ lands_in (key_in asked.now) symbols.now k path.now }
 {
-    symbols[k..].starts_with(path) && marked(asked, symbols, k + path.len())
+    begins(path, &symbols[k..]) && marked(asked, symbols, k + path.len())
 }
 
 // From a chain node: on some row.

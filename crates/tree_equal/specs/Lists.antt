@@ -29,6 +29,11 @@ pub kind_greater : (κ : ℕ → Class) (t : Table) (attribute : Bool) (v i : �
     → AtKind κ t attribute v i → 0 < i → v < i
 kind_greater κ t attribute v i h a p = let b = (a.child p).below in let g = h i p a.inside in omega arith
 
+-- a link leads into the table
+pub least_inside : (t : Table) (v i r e : ℕ) → 0 < t.size → LeastChild t v i e → r ≡ e → r < t.size
+least_inside t v i r zero p l h = omega arith
+least_inside t v i r (suc e) p l h = let c = (l.child (omega arith)).0.inside in omega arith
+
 module _ (κ : ℕ → Class) (t : Table) (attribute : Bool) where
   -- what `seek` finds from a link of v is a link of v
   sought_kind : (v e i : ℕ) → (0 < e → Child t v e) → Sought κ t attribute e i → AtKind κ t attribute v i

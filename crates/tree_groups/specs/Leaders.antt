@@ -1,7 +1,8 @@
 -- The families, found from the back: a node is of the family of a later node that is equal to it, or leads a family of its own. One law for
 -- each return.
 use Rattle.std.specs.Prelude.{ℕ, ◌+◌, ◌-◌, ◌/◌, ◌%◌, ◌<◌, ◌≤◌, ◌≡◌, Bool, true, false, List, length, get_or, set}
-use Rattle.std.proofs.Common.{sym, ◌∙◌, ap, subst, arith, length-set, get_or-set_same, get_or-set_other}
+use Rattle.std.proofs.Common.{sym, ◌∙◌, ap, subst, arith, mod-lt, length-set, get_or-set_same, get_or-set_other}
+use Rattle.std.proofs.lemmas.Bool.{false≢true}
 use Rattle.std.proofs.Math.Decide.{ℕ_discrete}
 use Rattle.meaning.specs.Paths.{Class}
 use Rattle.meaning.specs.Trees.{Table, IsTree, Equal}
@@ -28,6 +29,11 @@ sorted_more weight bucket count n b h s e =
         ap (λ (k : ℕ). get_or (set bucket n b) k 0) z ∙ get_or-set_same bucket n b 0 (let l = s.long in omega arith) ∙ e
         ∙ sym (ap (λ (k : ℕ). get_or weight k 0 / 4096 % count) z)
     go x g (no m) = get_or-set_other bucket n x b 0 m ∙ s.each x (omega arith)
+
+module _ (κ : ℕ → Class) (t : Table) (x y : ℕ) where
+  pub weighs_other : (weight : List ℕ) → Weighed κ t weight → x < t.size → y < t.size → (get_or weight x 0 ≡ get_or weight y 0 → ⊥)
+      → Tells (Equal κ t x y) false
+  weighs_other weight w ix iy n = record { yes = λ h. absurd (false≢true h); no = λ h q. n (w.equal x y ix iy q) }
 
 -- The family of x, where the later nodes have theirs
 pub record FamilyIs (κ : ℕ → Class) (t : Table) (family : List ℕ) (x r : ℕ) : Type 0 where
@@ -199,3 +205,9 @@ sorted_none weight bucket count l = record { long = l; each = λ x h. absurd (om
 
 pub sorted_all : (weight bucket : List ℕ) (count n : ℕ) → count ≤ n → n ≤ count → Sorted weight bucket count n → Sorted weight bucket count count
 sorted_all weight bucket count n h g s = let e : n ≡ count = omega arith in subst (Sorted weight bucket count) e s
+
+pub sorted_inside : (weight bucket : List ℕ) (count : ℕ) → 0 < count → Sorted weight bucket count count → (x : ℕ) → x < count → get_or bucket x 0 < count
+sorted_inside weight bucket count p s x h = let e = s.each x h in let m = mod-lt (get_or weight x 0 / 4096) p in omega arith
+
+pub bucket_small : (w count : ℕ) → 0 < count → w % count < count
+bucket_small w count p = mod-lt w p

@@ -1,8 +1,8 @@
 -- The next node of the same family: the links of the table whose "parent" is the family.
-use Rattle.std.specs.Prelude.{ℕ, zero, suc, ◌+◌, ◌-◌, ◌<◌, ◌≤◌, ◌≡◌, List, length, get_or, set}
+use Rattle.std.specs.Prelude.{ℕ, zero, suc, ◌+◌, ◌-◌, ◌<◌, ◌≤◌, ◌≡◌, refl, List, length, get_or, set}
 use Rattle.std.proofs.Common.{sym, ◌∙◌, subst, arith}
 use Rattle.meaning.specs.Trees.{Table, Child}
-use Rattle.tree_table.specs.Links.{LeastChild, Nexts, Linked, LinkedFrom, linked_step, linked_all}
+use Rattle.tree_table.specs.Links.{LeastChild, Nexts, Linked, LinkedFrom, linked_none, linked_step, linked_all}
 use Rattle.tree_table.specs.Seek.{left, left_falls}
 
 unfoldable pub by_family : ℕ → List ℕ → Table
@@ -11,15 +11,7 @@ by_family count family = record { size = count; parent = λ x. get_or family x 0
 module _ (count : ℕ) (family : List ℕ) where
   pub chain_none : (last same : List ℕ) → ((v : ℕ) → v < count → get_or last v 0 ≡ 0) → LinkedFrom (by_family count family) count last same
   unfolding by_family
-  chain_none last same zeros =
-      record {
-        firsts = λ v h.
-            record {
-              child = λ p. absurd (let z = zeros v h in omega arith);
-              skipped = λ k g c. absurd (let i = c.inside in omega arith);
-            };
-        nexts = λ x g p h. absurd (omega arith);
-      }
+  chain_none last same zeros = linked_none (by_family count family) count last same refl zeros
 
   pub chain_step : (last same : List ℕ) (j p : ℕ) → 1 < j → j ≤ count → count ≤ 4096 → length last ≡ 4096 → length same ≡ 4096
       → p ≡ get_or family (j - 1) 0 → p < count → LinkedFrom (by_family count family) j last same

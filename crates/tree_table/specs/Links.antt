@@ -26,6 +26,18 @@ pub record Linked (t : Table) (first next : List ℕ) : Type 0 where
   pub nexts : Nexts t next
 
 module _ (t : Table) where
+  -- before any node is linked
+  pub linked_none : (n : ℕ) (first next : List ℕ) → n ≡ t.size → ((v : ℕ) → v < t.size → get_or first v 0 ≡ 0) → LinkedFrom t n first next
+  linked_none n first next e zeros =
+      record {
+        firsts = λ v h.
+            record {
+              child = λ p. absurd (let z = zeros v h in omega arith);
+              skipped = λ k g c. absurd (let i = c.inside in omega arith);
+            };
+        nexts = λ x g p h. absurd (omega arith);
+      }
+
   -- node i goes in front of the later children of its parent
   module _ (first next : List ℕ) (i : ℕ) (positive : 0 < i) (inside : i < t.size) (fits : t.size ≤ length first) (fits' : t.size ≤ length next)
       (parent : t.parent i < t.size) (linked : LinkedFrom t (i + 1) first next) where

@@ -45,6 +45,10 @@ beq_false false true e h = false≢true h
 beq_false false false e h = true≢false e
 
 module _ (κ : ℕ → Class) (t : Table) (attribute : Bool) where
+  pub passed_start : (i : ℕ) → i < t.size → Passed κ t attribute i i
+  passed_start i b =
+      record { inside = b; child = λ p. (p, record { not_root = p; inside = b; below = refl }); later = λ p. omega arith; same = refl }
+
   -- the next sibling, or 0
   pub passed_next : (next : List ℕ) (i n r : ℕ) → Nexts t next → Passed κ t attribute i n → 0 < n → (IsKind κ t attribute n → ⊥)
       → r ≡ get_or next n 0 → Passed κ t attribute i r

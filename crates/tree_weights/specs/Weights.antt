@@ -2,7 +2,7 @@
 -- the code.
 use Rattle.std.specs.Prelude.{ℕ, ◌+◌, ◌-◌, ◌*◌, ◌/◌, ◌%◌, ◌<◌, ◌≤◌, ◌≡◌, Bool, not, length, get_or, set}
 use Rattle.std.proofs.Math.Path.{refl, sym, ap, ap₂}
-use Rattle.std.proofs.Common.{◌∙◌, subst, get_or-set_same, get_or-set_other}
+use Rattle.std.proofs.Common.{◌∙◌, subst, mul-le-mul_left, le_of_lt, get_or-set_same, get_or-set_other}
 use Rattle.std.proofs.Math.Bool.{true, false, cond}
 use mathlib.Core.List.Permᴰ
 use mathlib.Core.List.{List, Memᴰ}
@@ -200,6 +200,10 @@ module _ (κ : ℕ → Class) (t : Table) (weight sums orders : List ℕ) (l : W
       go x y h g e (no n) (yes w) =
           absurd ((tree.rest x (omega arith) h).not_root (equal_label e ∙ ap (λ (k : ℕ). t.label k) w ∙ tree.root))
       go x y h g e (no n) (no m) = equal_weight e (omega arith) h (omega arith) g
+
+-- the product in `mixed` fits 64 bits
+pub product_fits : (a b : ℕ) → a < range → b < 131072 → a * b < 18446744073709551616
+product_fits a b h g = let m = mul-le-mul_left a (le_of_lt g) in omega arith
 
 -- the last step of the loop
 pub weighed_end : (κ : ℕ → Class) (t : Table) (i : ℕ) (weight sums orders : List ℕ) → i ≤ 1 → 0 < i → IsTree κ t → WeighedFrom κ t i weight sums orders
